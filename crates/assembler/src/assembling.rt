@@ -41,7 +41,7 @@ pub fn assemble(alloc: Global, text: &[u8]) -> Result<Image, AsmFault>
     }
 }
 
-/// Returns the image of a program's text, as `assemble` does, or its fault with the place in its line.
+/// Returns the image of a program's text, as `assemble` does, or its fault with the place in its line (clause `place`).
 #[tactic(auto, unfolding(crate::specs::Passes::assembled))]
 pub fn assemble_placed(alloc: Global, text: &[u8]) -> Result<Image, PlacedFault>
     ensures found { IfOk result (λ image. StandsFor text.now image) }

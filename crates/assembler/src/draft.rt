@@ -67,7 +67,7 @@ pub fn name_in<'a>(statement: &Statement<&'a [u8]>) -> Option<&'a [u8]>
     }
 }
 
-/// Returns the kind of what this statement declares. A label and a row, labelled or not, give `Target`.
+/// Returns the kind of what this statement declares. It is `Target`, the kind of a row, for a label and for a row.
 pub fn kind_named(statement: &Statement<&[u8]>) -> OperandKind
     ensures { result ≡ kind_named (statement_seen statement.now) }
 {
@@ -137,7 +137,7 @@ fn counted_with(counts: Counts, line: &KeptLine<'_>) -> Counts
     }
 }
 
-/// Returns whether a label or a row was read after one more line: before it (`has_code`), or in it.
+/// Returns whether a label or a row was read, with `line` counted: in an earlier line (`has_code`), or in `line`.
 fn code_with(has_code: bool, line: &KeptLine<'_>) -> bool
     ensures { result ≡ (has_code || is_code (statement_kept line.now)) }
 {
@@ -176,7 +176,7 @@ fn add_name<'a>(
     Ok(())
 }
 
-/// Returns the number of a place, if it is of this kind.
+/// Returns the number of the row or the object at a place. `None`: no place is given, or it is of another kind.
 #[inline(always)]
 pub fn number_there(kind: OperandKind, place: Option<Place>) -> Option<u16>
     ensures { result ≡ number_there kind place }
@@ -271,14 +271,14 @@ impl<'a> Draft<'a> {
         self.counts.rows < most(OperandKind::Target)
     }
 
-    /// Returns the number of the row or the object of this kind with this name, if there is one.
+    /// Returns the number of the row or the object of this kind with this name. `None`: no line so far declares one.
     pub fn number_named(&self, kind: OperandKind, name: &[u8]) -> Option<u16>
         ensures { result ≡ number_named kind name.now self.now }
     {
         number_there(kind, self.place_named(name))
     }
 
-    /// Returns the number in a reference, unchecked, or the number of what its name names. `None`: nothing of this kind.
+    /// Returns the number in a reference, unchecked, or that of what it names. `None`: nothing of this kind has the name.
     pub fn referent(&self, kind: OperandKind, reference: &Reference<&'a [u8]>) -> Option<u16>
         ensures { result ≡ referent self.now kind (reference_seen reference.now) }
     {
@@ -288,7 +288,7 @@ impl<'a> Draft<'a> {
         }
     }
 
-    /// Appends the directive `said`, which is line `number` and may follow the lines so far. Fails if it is out of memory.
+    /// Appends line `number`, the directive `said`. The caller has checked that it may follow. Fails if it is out of memory.
     pub fn push_directive(
         &mut self,
         number: u64,
@@ -314,6 +314,7 @@ impl<'a> Draft<'a> {
         let counts = counted_with(self.counts, &line);
         let has_code = code_with(self.has_code, &line);
         self.lines.push(line)?;
+        // A line and its name are stored together or not at all: out of memory for the name takes the line back.
         if let Err(refused) = add_name(&mut self.names, name, place) {
             self.lines.pop();
             return Err(refused);

@@ -18,7 +18,7 @@ use line_reader::first_line::put_line;
 use line_reader::label::is_label;
 use std::alloc::{AllocError, Global};
 
-/// Returns a failure to add a line as its fault `Memory`, which is at none of its words: 0 words are left.
+/// Returns `Ok` if a line was added, and otherwise the fault `Memory`. Its place 0 says that no word of the line is wrong.
 #[inline(always)]
 fn pushed(added: Result<(), AllocError>) -> Result<(), WordFault>
     ensures ok { OnOk result (added ≡ Ok tt) }
@@ -30,7 +30,7 @@ fn pushed(added: Result<(), AllocError>) -> Result<(), WordFault>
     }
 }
 
-/// Adds the line of this number, which begins with the label `word` and may have a row after it.
+/// Adds the line of this number: the label `word`, and perhaps a row in `words` after it. A fault adds nothing.
 #[inline(never)]
 #[tactic(auto, unfolding(crate::specs::Reading::words_behind))]
 fn add_labelled<'a>(
@@ -49,7 +49,7 @@ fn add_labelled<'a>(
     pushed(draft.push(line))
 }
 
-/// Adds the line of this number, a directive that `word` begins.
+/// Adds the line of this number: a directive that `word` begins, with the other words in `words`. A fault adds nothing.
 #[inline(never)]
 #[tactic(auto, unfolding(crate::specs::Reading::words_behind, crate::specs::Reading::statement_behind))]
 fn add_directive<'a>(
@@ -69,7 +69,7 @@ fn add_directive<'a>(
     pushed(draft.push_directive(number, said))
 }
 
-/// Adds the line of this number, a row without a label that `word` begins.
+/// Adds the line of this number: a row without a label. `word` begins it, and `words` are its operands. A fault adds nothing.
 #[inline(always)]
 #[tactic(auto, unfolding(crate::specs::Reading::words_behind, crate::specs::Reading::statement_behind))]
 fn add_row<'a>(
@@ -111,7 +111,8 @@ fn add_words<'a>(draft: &mut Draft<'a>, number: u64, words: &[&'a [u8]]) -> Resu
     }
 }
 
-/// Adds the first line of a text, which has this number. Returns the text after it. The line's words are left in `words`.
+/// Adds the first line of a text, which has this number, to the draft. Returns the text after the line, or the line's fault.
+/// The line's words replace those in `words`: the caller counts them to find the place of a fault.
 #[inline(always)]
 #[tactic(auto, unfolding(crate::specs::Reading::line_behind), using(crate::proofs::SpelledLines::words_counted))]
 fn read_line<'a>(

@@ -25,7 +25,7 @@ pub enum KeptLine<'a> {
 }
 
 impl<'a> KeptLine<'a> {
-    /// Makes line `number`, the directive `said`: it declares a phaser, a barrier, a thread or a cell. Fails if out of memory.
+    /// Makes line `number` of the directive `said`, which is neither a label nor a row. Fails if it is out of memory.
     pub fn of_directive(
         alloc: Global,
         number: u64,
@@ -72,7 +72,7 @@ impl<'a> KeptLine<'a> {
         }
     }
 
-    /// Returns the kind of what this line declares. A label and a row, labelled or not, give `Target`.
+    /// Returns the kind of what this line declares. It is `Target`, the kind of a row, for a label and for a row.
     pub fn kind_named(&self) -> OperandKind
         ensures { result ≡ kind_named (statement_kept self.now) }
     {
@@ -85,7 +85,7 @@ impl<'a> KeptLine<'a> {
         }
     }
 
-    /// Returns whether it is a label or a row.
+    /// Returns whether it is a label or a row. No directive may follow such a line.
     pub fn is_code(&self) -> bool
         ensures { result ≡ is_code (statement_kept self.now) }
     {
@@ -95,7 +95,7 @@ impl<'a> KeptLine<'a> {
         )
     }
 
-    /// Returns whether it is a row.
+    /// Returns whether the line has a row, with or without a label.
     pub fn is_row(&self) -> bool
         ensures { result ≡ is_row (statement_kept self.now) }
     {

@@ -5,7 +5,7 @@ use crate::kept_line::KeptLine;
 use instruction_table::OperandKind;
 use std::alloc::Global;
 
-/// Returns whether a line makes a row (`Target`), or an object of this kind.
+/// Returns whether a line has a row, if `kind` is `Target`, or otherwise declares an object of this kind.
 fn makes(line: &KeptLine<'_>, kind: OperandKind) -> bool {
     match kind {
         OperandKind::Target => line.is_row(),
@@ -13,7 +13,7 @@ fn makes(line: &KeptLine<'_>, kind: OperandKind) -> bool {
     }
 }
 
-/// Returns the number of the line among these that makes the row or the object of this number, from 0.
+/// Returns the number of the line among these that has the row, or declares the object, of this number from 0. `None`: fewer.
 fn line_among(lines: &[KeptLine<'_>], kind: OperandKind, number: u64) -> Option<u64> {
     let mut left = number;
     for line in lines {
@@ -27,8 +27,8 @@ fn line_among(lines: &[KeptLine<'_>], kind: OperandKind, number: u64) -> Option<
     None
 }
 
-/// Returns the number of the line, from 1, that makes the row or the object of this number, from 0. `None`: there are fewer,
-/// or the text has a fault.
+/// Returns the number, from 1, of the line that has the row, or declares the object, of this number, from 0. `None`: there are
+/// fewer, or the text has a fault. A message about a program that can't be loaded uses it to show the line.
 pub fn line_that_makes(alloc: Global, text: &[u8], kind: OperandKind, number: u64) -> Option<u64> {
     match lines_read(alloc, text) {
         Ok((draft, _)) => line_among(draft.lines(), kind, number),

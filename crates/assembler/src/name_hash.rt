@@ -12,7 +12,7 @@ pub struct NameHash {
 }
 
 impl NameHash {
-    /// Returns the hash for the names of this text, which it reads to the end.
+    /// Returns the hash for the names of this text. It takes in the whole text first: so nobody can choose names that collide.
     pub fn new(text: &[u8]) -> NameHash
         ensures { result.behind_text ≡ write initial text.now }
     {
@@ -44,6 +44,7 @@ impl<'a> PartialEq for NameKey<'a> {
 
     ghost laws = { Prim.search (comparing, rules) };
 
+    /// Returns whether the two names have the same bytes.
     fn eq(&self, other: &NameKey<'a>) -> bool {
         self.bytes == other.bytes
     }
@@ -58,6 +59,7 @@ impl<'a> Hash for NameKey<'a> {
 
     ghost respects_eq = { Prim.search (hashing, rules) };
 
+    /// Gives the name's bytes to the hasher.
     fn hash<H: Hasher>(&self, state: &mut H) {
         state.write(self.bytes);
     }

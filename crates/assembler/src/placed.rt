@@ -50,8 +50,8 @@ impl PlacedFault {
     }
 }
 
-/// Returns where a fault is in `line`, which has so many `words`: the byte of `BadByte`, otherwise the word with which the
-/// last `fault.left` words begin. `None` if that is 0: the whole line is too long, or memory was refused.
+/// Returns where a fault is in `line`. `words` is how many words the line has. For `BadByte` it is the byte, and otherwise the
+/// first of the last `fault.left` words. `None` if `left` is 0: the whole line is too long, or memory was refused.
 fn place_in(line: &[u8], fault: WordFault, words: usize) -> Option<WordPlace>
     ensures { result ≡ place_in line.now words fault }
 {
@@ -68,7 +68,7 @@ fn place_in(line: &[u8], fault: WordFault, words: usize) -> Option<WordPlace>
     )
 }
 
-/// Returns the fault of line `number` of a text, which has so many `words`, with its place in the line.
+/// Returns the fault of line `number` of a text, with its place in the line. `words` is how many words the line has.
 pub fn placed(number: u64, fault: WordFault, text: &[u8], words: usize) -> PlacedFault
     ensures fault { result.fault ≡ record { line = number; kind = fault.kind } }
     ensures place { (line : List ℕ) → 1 ≤ number → slice_get (lines_of text.now) (number - 1) ≡ Some line
@@ -87,7 +87,8 @@ pub fn placed(number: u64, fault: WordFault, text: &[u8], words: usize) -> Place
     }
 }
 
-/// Returns the kind `wanted` and the name in a reference, if nothing of this kind has the name. `None` for a number.
+/// Returns `wanted` and the name in a reference, if nothing of this kind has the name. `None`: something has it, or the
+/// reference is a number.
 fn unknown_by<'a>(
     draft: &Draft<'_>,
     wanted: OperandKind,
@@ -105,7 +106,8 @@ fn unknown_by<'a>(
     }
 }
 
-/// Returns the kind and the name at a place of a row, if it is a name and nothing of this kind has it.
+/// Returns the kind and the name in an operand, if nothing of this kind has the name. `None`: something has it, or the operand
+/// isn't a name.
 fn unknown_operand<'a>(
     draft: &Draft<'_>,
     held: &Held<'a>,
@@ -123,7 +125,7 @@ fn unknown_operand<'a>(
     }
 }
 
-/// Returns the first unknown name in a row, and the kind that it should name.
+/// Returns the first unknown name in a row, and the kind that it should name. `None`: all its names are known.
 fn unknown_in_row<'a>(draft: &Draft<'_>, row: &KeptRow<'a>) -> Option<(OperandKind, &'a [u8])>
     ensures { option_map (λ found. (found.0, found.1.now)) result
         ≡ unknown_in_row draft.now (row_kept row.now) }
@@ -140,7 +142,7 @@ fn unknown_in_row<'a>(draft: &Draft<'_>, row: &KeptRow<'a>) -> Option<(OperandKi
     unknown_operand(draft, &row.held, row.fourth)
 }
 
-/// Returns the first unknown name in a line that has one, and the kind that it should name.
+/// Returns the first unknown name in a line, and the kind that it should name. `None`: all its names are known.
 fn unknown_name<'a>(draft: &Draft<'_>, line: &KeptLine<'a>) -> Option<(OperandKind, &'a [u8])>
     ensures { option_map (λ found. (found.0, found.1.now)) result
         ≡ unknown_in draft.now (statement_kept line.now) }

@@ -25,8 +25,8 @@ fn is_new(draft: &Draft, name: Option<&[u8]>) -> bool
     }
 }
 
-/// Reads a directive after the lines so far. None of them may be code; its name has to be new, and there has to be room. The
-/// fault of a name is at the name, and the two others are at `word`.
+/// Reads the directive that `word` begins, after the lines in `draft`. It is a fault if one of these is a label or a row, or if
+/// there is no room: this fault is at `word`. It is also one if the name isn't new: this fault is at the name.
 #[tactic(auto, unfolding(crate::specs::Reading::directive_behind))]
 pub fn directive_behind<'a>(
     draft: &Draft<'a>,
@@ -50,7 +50,7 @@ pub fn directive_behind<'a>(
     Ok(said)
 }
 
-/// Reads a row after the lines so far. If there is no room for it, `word` is `TooMany`. Its label was checked before.
+/// Reads the row that `word` begins, after the lines in `draft`. If there is no room for it, `word` has the fault `TooMany`.
 #[inline(always)]
 #[tactic(auto, unfolding(crate::specs::Reading::row_behind))]
 pub fn row_behind<'a>(
@@ -105,6 +105,7 @@ pub fn label_behind<'a>(
         ≡ statement_behind draft.now word.now (map name_seen words.now) }
     ensures number { IfOk result (λ line. number_kept line ≡ number) }
 {
+    // A fault's place is the count of the words from the wrong one on: here the label, and all words after it.
     let left = words.len() + 1;
     let label = read_at(left, name_at(before_last(word)))?;
     if draft.is_given(label) {

@@ -66,7 +66,7 @@ fn is_symbol_of(kind: OperandKind, number: u32, symbol: &Symbol<&[u8]>) -> bool
 }
 
 impl<'a> Symbols<'a> {
-    /// Returns no names and no lines, for a program that is given as an image.
+    /// Makes a table without names and lines, for a program that is given as an image, and so has no text.
     pub fn none(alloc: Global) -> Symbols<'a>
         ensures { result ≡ record { names = []; rows = [] } }
     {
@@ -76,14 +76,14 @@ impl<'a> Symbols<'a> {
         }
     }
 
-    /// Returns how many names there are.
+    /// Returns how many names the text declares.
     pub fn len(&self) -> usize
         ensures { result ≡ length self.now.names }
     {
         self.names.len()
     }
 
-    /// Returns the name at this place in the order of declaration, from 0, if there are so many.
+    /// Returns the name at this place in the order of declaration, from 0. `None`: there are fewer names.
     pub fn get(&self, index: usize) -> Option<Symbol<&'a [u8]>>
         ensures { option_map symbol_seen result ≡ slice_get self.now.names index }
     {
@@ -102,7 +102,7 @@ impl<'a> Symbols<'a> {
         self.rows.as_slice()
     }
 
-    /// Returns the name of what has this kind and number, if it has one. For a row it is its first label.
+    /// Returns the name of the row or the object of this kind and number. `None`: it has none. For a row it is its first label.
     pub fn name_of(&self, kind: OperandKind, number: u32) -> Option<&'a [u8]>
         ensures { option_map name_seen result ≡ name_of kind number self.now }
     {

@@ -14,7 +14,7 @@ pub struct WordPlace {
     pub length: usize,
 }
 
-/// Returns the line of this number, from 1, if there is one.
+/// Returns the line of this number, from 1. `None`: the number is 0, or the text has fewer lines.
 pub fn line_at(text: &[u8], number: u64) -> Option<&[u8]>
     ensures line { IfSome result (λ line. slice_get (lines_of text.now) (number - 1) ≡ Some line.now) }
     ensures found { 1 ≤ number → option_map name_seen result ≡ slice_get (lines_of text.now) (number - 1) }
@@ -39,7 +39,8 @@ fn place_of_blank(bytes: &[u8]) -> Option<usize>
     bytes.iter().position(|byte| is_blank(*byte))
 }
 
-/// Returns what precedes the first blank, and what follows it. Without a blank these are the text and nothing.
+/// Returns what precedes the first blank, perhaps nothing, and what follows it. Without a blank these are the text and nothing.
+/// The clauses say that the text's words are the word before the blank, if there is one, and then those after it.
 fn first_piece(text: &[u8]) -> (&[u8], &[u8])
     requires { 0 < length text.now }
     ensures words { words_in text.now ≡ word_alone result.0.now ++ words_in result.1.now }
@@ -57,7 +58,7 @@ fn first_piece(text: &[u8]) -> (&[u8], &[u8])
     }
 }
 
-/// Returns the place of the word of this number, from 0, in a line without its comment, if there are so many.
+/// Returns the place of the word of this number, from 0, in a line without its comment. `None`: the line has fewer words.
 pub fn place_of_word(text: &[u8], number: usize) -> Option<WordPlace>
     ensures place { result ≡ slice_get (places_in text.now) number }
     ensures word { IfSome result (IsWordAt text.now number) }

@@ -40,7 +40,7 @@ impl<K> Model for BlockPort<K> {
 }
 
 impl<K: Sink + Drop> BlockPort<K> {
-    /// Makes a port over a sink. Only this call allocates.
+    /// Makes a sink that writes to another one in blocks. Only this call allocates.
     pub fn new(alloc: Global, port: K) -> Result<BlockPort<K>, AllocError>
         ensures { IfOk result (λ p. p ≡ record { inner = port; held = []; failed = false }) }
     {
@@ -52,7 +52,7 @@ impl<K: Sink + Drop> BlockPort<K> {
         })
     }
 
-    /// Passes the bytes in the block on to the sink, and empties the block. If the sink fails, the port has failed.
+    /// Writes the bytes in the block to the sink, and empties the block. If the sink fails, this port has failed for good.
     fn hand_on(&mut self) -> Result<(), Failed>
         requires { self.old.failed ≡ false }
         ensures bytes { OnOk result
@@ -69,8 +69,8 @@ impl<K: Sink + Drop> BlockPort<K> {
         Ok(())
     }
 
-    /// The rare cases of `push`, which is inlined: the port has failed, or `bytes` don't fit. Then the block is passed on, and
-    /// `bytes` begin the next block. If they are longer than a block, they are passed on, too.
+    /// Does the rare cases of `push`, which is inlined: the port has failed, or `bytes` don't fit. Then the block is passed on,
+    /// and `bytes` begin the next block. If they are longer than a block, they are passed on, too.
     #[inline(never)]
     fn push_far(&mut self, bytes: &[u8]) -> Result<(), Failed>
         ensures failed { FailsForGood self.old.failed self.new.failed result }
@@ -107,8 +107,8 @@ impl<K: Sink + Drop> BlockPort<K> {
 }
 
 impl<W: Write + Drop> BlockPort<WritePort<W>> {
-    /// Passes on what is left in the block, and flushes the writer. A program calls it once, after its last `push`. Fails if this
-    /// or an earlier call failed.
+    /// Passes on what is left in the block, and flushes the writer. A program calls it once, after its last `push`. Fails if
+    /// this or an earlier call failed.
     pub fn finish(&mut self) -> Result<(), Failed>
         ensures failed { FailsForGood self.old.failed self.new.failed result }
         ensures bytes { OnOk result

@@ -38,7 +38,7 @@ impl<S> Model for BlockSource<S> {
 }
 
 impl<S: Source + Drop> BlockSource<S> {
-    /// Makes a port over a source. Only this call allocates.
+    /// Makes a source that reads another one in blocks. Only this call allocates.
     pub fn new(alloc: Global, source: S) -> Result<BlockSource<S>, AllocError>
         ensures { IfOk result (λ s. s ≡ record { inner = source; held = []; failed = false }) }
     {
@@ -51,7 +51,7 @@ impl<S: Source + Drop> BlockSource<S> {
         })
     }
 
-    /// Reads the source once into the empty block. At the end of the source the block stays empty.
+    /// Reads the source once into the empty block. At the end of the source the block stays empty. Fails if the source does.
     #[inline(never)]
     fn refill(&mut self) -> Result<(), Failed>
         requires held { self.old.held ≡ [] }
@@ -78,7 +78,7 @@ impl<S: Source + Drop> BlockSource<S> {
         }
     }
 
-    /// Copies the next bytes of the block to `buffer`, as many as are left and fit. Returns how many.
+    /// Copies the next bytes of the block to `buffer`, as many as are left and fit. Returns how many: 0 if the block is empty.
     #[inline(always)]
     fn give(&mut self, buffer: &mut [u8]) -> usize
         ensures count { result ≡ min (length buffer.old) (length self.old.held) }
@@ -117,6 +117,7 @@ impl<S: Source + Drop> Source for BlockSource<S> {
     ghost reads = { λ s. S.reads s.inner };
 
     /// Copies the next bytes of the block to `buffer`, and returns how many. If none is left, it first reads the source, once.
+    /// A result of 0 for a buffer that isn't empty is the end of the source.
     #[inline(always)]
     fn pull(&mut self, buffer: &mut [u8]) -> Result<usize, Failed>
         ensures failed { FailsForGood self.old.failed self.new.failed result }

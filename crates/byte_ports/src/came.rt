@@ -15,14 +15,14 @@ impl Model for Came {
 }
 
 impl Came {
-    /// Returns what has come to a new sink: no bytes.
+    /// Returns what has come to a new sink: no bytes. Only proofs see the bytes, so the value is empty when it runs.
     pub fn none() -> Came
         ensures { result.bytes ≡ [] }
     {
         Came {}
     }
 
-    /// Returns what has come so far, followed by these bytes.
+    /// Returns what has come so far, followed by these bytes. Only proofs see the bytes, so this does nothing when it runs.
     pub fn and(&self, bytes: &[u8]) -> Came
         ensures { result.bytes ≡ self.now.bytes ++ bytes.now }
     {

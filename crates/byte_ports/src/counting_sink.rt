@@ -40,7 +40,7 @@ impl CountingSink {
         }
     }
 
-    /// Returns what it has kept.
+    /// Returns the bytes that it has kept: the first ones that came.
     pub fn kept(&self) -> &[u8]
         ensures kept { result.now ≡ self.now.kept }
         ensures first { AreFirst result.now self.now.written }
@@ -55,7 +55,7 @@ impl CountingSink {
         self.count
     }
 
-    /// Returns whether it has kept everything that fits a buffer of `room` bytes: out of memory it hasn't.
+    /// Returns whether it has kept all that came, or the first `room` bytes of it. False: it was out of memory, or keeps fewer.
     pub fn has_kept(&self, room: usize) -> bool
         ensures { IsTrue result ↔ (min (length self.now.written) room ≤ length self.now.kept) }
     {
@@ -63,7 +63,8 @@ impl CountingSink {
     }
 }
 
-/// Appends as many of `bytes` as fit below `most`, if all `count` bytes before are kept. Without memory it keeps none of them.
+/// Appends as many of `bytes` as fit below `most`, if all `count` bytes before are kept. If memory is refused, it keeps none of
+/// them, and ignores the refusal: the sink goes on counting, and `has_kept` says that bytes are missing.
 fn keep(kept: &mut Vec<u8>, most: usize, count: usize, bytes: &[u8])
     ensures { (came : List ℕ) → AreFirst kept.old.items came → count ≡ min (length came) most_counted
         → AreFirst kept.new.items (came ++ bytes.now) }

@@ -11,6 +11,7 @@ pub struct Failed;
 impl fmt::Display for Failed {
     ghost output = { λ _. Some (codes "the port has failed") };
 
+    /// Writes `the port has failed`.
     fn fmt<W: fmt::Write>(&self, f: &mut fmt::Formatter<W>) -> fmt::Result {
         f.write_str("the port has failed")
     }

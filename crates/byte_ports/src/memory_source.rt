@@ -45,7 +45,8 @@ impl<'a> Source for MemorySource<'a> {
 
     ghost reads = { λ _. 0 };
 
-    /// Returns as many bytes as are left and fit. Fails at the chosen call, and after a failure.
+    /// Copies as many bytes as are left and fit to `buffer`, and returns how many: 0 at the end. Fails at the chosen call and
+    /// after a failure, and then copies none. The clause `reads` is the trait's: this source counts no reads, so they are 0.
     fn pull(&mut self, buffer: &mut [u8]) -> Result<usize, Failed>
         ensures failed { FailsForGood self.old.failed self.new.failed result }
         ensures bound { IfOk result (λ n. n ≤ length buffer.new) }

@@ -41,7 +41,8 @@ impl<R: Read> Source for ReadPort<R> {
 
     ghost reads = { λ _. 0 };
 
-    /// Reads the reader once, or again if a signal interrupts it. Any other error is a failure, as are `MOST_TRIES` signals.
+    /// Reads once into `buffer`, or again if a signal interrupts it. Returns how many bytes came. Any other error is a failure,
+    /// and so are `MOST_TRIES` signals. The clause `reads` is the trait's: this source counts no reads, so they are 0.
     fn pull(&mut self, buffer: &mut [u8]) -> Result<usize, Failed>
         ensures failed { FailsForGood self.old.failed self.new.failed result }
         ensures bound { IfOk result (λ n. n ≤ length buffer.new) }
@@ -59,7 +60,7 @@ impl<R: Read> Source for ReadPort<R> {
     }
 }
 
-/// Reads once, or again if a signal interrupts it. Fails by another error, or after `MOST_TRIES` tries.
+/// Reads once, or again after a signal, and returns how many bytes came. Fails by another error, or after `MOST_TRIES` tries.
 fn read_through_interruptions<R: Read>(reader: &mut R, buffer: &mut [u8]) -> Result<usize, Failed>
     ensures bound { IfOk result (λ n. n ≤ length buffer.new) }
     ensures bytes { ReadConsumes (R.remaining reader.old) (R.remaining reader.new)

@@ -23,7 +23,7 @@ fn copy_ends<const N: usize>(from: &[u8], to: &mut [u8])
     to[behind..].copy_from_slice(&last);
 }
 
-/// Copies `from` over `to`, which has the same length. For 8 to 32 bytes, as in most lines of a trace, it calls nothing.
+/// Copies `from` over `to`, which has the same length. For 8 to 32 bytes, as in most lines of a trace, it needs no call.
 #[inline(always)]
 pub(super) fn copy_short(from: &[u8], to: &mut [u8])
     requires { length to.old ≡ length from.now }

@@ -61,7 +61,8 @@ impl Model for SourceLines {
         × (lines.stop ≤ lines.at) × (lines.at ≤ lines.end) × (lines.end ≤ 81920) × (lines.reads ≤ 1000000000) };
 }
 
-/// Returns the place of the first LF, or the length if there is none. The first `seen` bytes are known to have none.
+/// Returns the place of the first LF, or the length if there is none. The first `seen` bytes are known to have none. It looks
+/// at four bytes in a round, because that is faster.
 fn place_of_lf(bytes: &[u8], seen: usize) -> usize
     requires seen { seen ≤ length bytes.now }
     requires one { IsOneLine (take seen bytes.now) }
@@ -102,7 +103,7 @@ fn move_front(block: &mut [u8], at: usize, end: usize)
     block.copy_within(at..end, 0);
 }
 
-/// Reads a piece of at most 16,384 bytes to the place after the first `held` bytes. Returns its length, 0 at the end.
+/// Reads a piece of at most 16,384 bytes to the block, after its first `held` bytes. Returns its length, 0 at the end.
 fn pull_behind<S: Source>(source: &mut S, block: &mut [u8], held: usize) -> Result<usize, Failed>
     requires { held + 16384 ≤ length block.old }
     ensures length { length block.new ≡ length block.old }
@@ -175,8 +176,8 @@ impl SourceLines {
         self.take_line(count, count);
     }
 
-    /// Moves what is held to the front, and reads a piece after it. Returns its length, 0 at the end. Fails after `MOST_READS`
-    /// reads.
+    /// Moves the bytes not yet returned to the front, and reads a piece after them. Returns its length, 0 at the end. Fails if
+    /// the source does, or after `MOST_READS` reads.
     #[inline(never)]
     fn fill<S: Source>(&mut self, source: &mut S) -> Result<usize, Failed>
         requires { length self.old.held ≤ 65536 }
@@ -207,8 +208,8 @@ impl SourceLines {
         Ok(count)
     }
 
-    /// Reads a line: up to its LF, up to the end of the source, or up to one byte more than a line may have. It reads the
-    /// source only if no whole line is there already, and at most 1,000,000,000 times.
+    /// Reads a line, and returns how it ended: by its LF, by the end of the source, or not at all within the bytes that it may
+    /// have. It reads the source only if no whole line is there already. Fails if the source does, or after `MOST_READS` reads.
     pub fn read_line<S: Source>(&mut self, source: &mut S) -> Result<LineEnded, Failed>
         ensures bytes { Consumes (prepend_known self.old.held (S.left source.old))
             (prepend_known self.new.held (S.left source.new)) (taken result self.new.line) }

@@ -9,8 +9,8 @@ use std::io::Write;
 use std::marker::Model;
 
 /// A sink over any writer of std, such as a file or standard output. It tells its contract the bytes written if the writer
-/// does. A file and standard output don't. It keeps no bytes, and flushes only in `finish`. So the program chooses the buffering
-/// with the writer: for example a `BufWriter` for long output, or a `LineWriter` for a dialogue.
+/// does. A file and standard output don't. It keeps no bytes, and flushes only in `finish`. So the program chooses the
+/// buffering with the writer: for example a `BufWriter` for long output, or a `LineWriter` for a dialogue.
 #[derive(Drop)]
 pub struct WritePort<W> {
     writer: W,

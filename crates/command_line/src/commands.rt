@@ -198,7 +198,7 @@ impl Subcommand {
     }
 }
 
-/// The option `--explain WHEN` of the program and of each command. The last one counts.
+/// Returns the option `--explain WHEN` of the program and of each command. The last one counts.
 fn explain<'a>(alloc: Global) -> Result<Arg<'a>, AllocError> {
     Arg::new(alloc, "explain")
         .long("explain")
@@ -209,7 +209,7 @@ fn explain<'a>(alloc: Global) -> Result<Arg<'a>, AllocError> {
         .overrides_with("explain")
 }
 
-/// The program of this version for `clap`, without its commands.
+/// Returns the program of this version for `clap`, without its commands.
 fn bare<'a>(alloc: Global, version: &'a str) -> Result<Command<'a>, AllocError> {
     Command::new(alloc, "vuthgal")
         .version(version)
@@ -220,7 +220,7 @@ fn bare<'a>(alloc: Global, version: &'a str) -> Result<Command<'a>, AllocError> 
         .arg(explain(alloc)?)
 }
 
-/// The program of this version for `clap`, with its commands.
+/// Returns the program of this version for `clap`, with its commands.
 pub fn program<'a>(alloc: Global, version: &'a str) -> Result<Command<'a>, AllocError> {
     let mut program = bare(alloc, version)?;
     for subcommand in &COMMANDS {

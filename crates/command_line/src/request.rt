@@ -129,6 +129,7 @@ enum Refusal {
 }
 
 impl From<AllocError> for Refusal {
+    /// Turns missing memory into `Refusal::Memory`, so that `?` can pass it on.
     fn from(_error: AllocError) -> Refusal {
         Refusal::Memory
     }
@@ -144,21 +145,21 @@ const SEEDS: &str =
 
 const EARLY: &str = "--expect STATE goes after the command's name";
 
-/// The word in a place, if it is given.
+/// Returns the word that is given for this argument or option. None if it is left out.
 fn word_given<'a>(matches: &ArgMatches<'a>, place: &str) -> Option<&'a str>
     ensures { option_map (λ word. word.now) result ≡ given place.now (rows_in matches.now) }
 {
     matches.get_str(place)
 }
 
-/// The word in a place that `clap` has made sure of.
+/// Returns the word of a required argument. `clap` has refused a command line without it, so it is never left out here.
 fn word<'a>(matches: &ArgMatches<'a>, place: &str) -> &'a str
     ensures { result.now ≡ word_of place.now (rows_in matches.now) }
 {
     word_given(matches, place).unwrap_or("")
 }
 
-/// The words in a place that takes several.
+/// Returns the words of an argument that takes several, which may be none.
 fn words<'a>(
     alloc: Global,
     matches: &ArgMatches<'a>,
@@ -169,14 +170,14 @@ fn words<'a>(
     Vec::from_slice(alloc, matches.get_strs(place).unwrap_or(&[]))
 }
 
-/// Whether a flag is given.
+/// Returns whether a flag is given: then `clap` holds the word `true` for it.
 fn is_set(matches: &ArgMatches<'_>, flag: &str) -> bool
     ensures { IsFlag (given flag.now (rows_in matches.now)) result }
 {
     matches!(word_given(matches, flag), Some("true"))
 }
 
-/// The number from `least` to `most` that one to ten digits spell.
+/// Returns the number that one to ten digits spell. None for other texts, and for a number below `least` or above `most`.
 fn number(text: &str, least: u32, most: u32) -> Option<u32>
     ensures range { IfSome result (λ n. (least ≤ n) × (n ≤ most)) }
     ensures spelled { IfSome result (λ n. n ≡ digits_value 10 text.now) }
@@ -190,7 +191,7 @@ fn number(text: &str, least: u32, most: u32) -> Option<u32>
     }
 }
 
-/// The number of an option that may be left out. `clap` has refused what isn't from `least` to `most`.
+/// Returns the number of an option, or None if it is left out. `clap` has refused what isn't from `least` to `most`.
 fn number_given(
     matches: &ArgMatches<'_>,
     option: &str,
@@ -207,7 +208,7 @@ fn number_given(
     Ok(Some(number))
 }
 
-/// The number of an option that has to be there.
+/// Returns the number of an option that is required or has a default value.
 fn needed(matches: &ArgMatches<'_>, option: &str, least: u32, most: u32) -> Result<u32, Refusal>
     ensures range { IfOk result (λ n. (least ≤ n) × (n ≤ most)) }
     ensures asked { IfOk result (λ n. IsNumber (given option.now (rows_in matches.now)) (Some n)) }
@@ -227,7 +228,7 @@ pub fn spaced(alloc: Global, text: &str) -> Result<Vec<u8>, AllocError> {
     Ok(spaced)
 }
 
-/// Returns each `--expect STATE`, or the refusal of one that expects nothing. It may have any blanks between its words.
+/// Returns the texts of all `--expect STATE`, with any blanks between their words; or a refusal if one is no STATE.
 fn expected<'a>(alloc: Global, matches: &ArgMatches<'a>) -> Result<Vec<&'a str>, Refusal>
     ensures { IfOk result (AreWords (codes "expect") (rows_in matches.now)) }
 {
@@ -240,7 +241,7 @@ fn expected<'a>(alloc: Global, matches: &ArgMatches<'a>) -> Result<Vec<&'a str>,
     Ok(states)
 }
 
-/// The choices that are named, as a schedule, by `--at`, `--plan` or `--plan-file`.
+/// Returns which choices are asked for: a schedule, `--at`, `--plan`, `--plan-file`, or else those in the program's file.
 fn chosen_steps<'a>(matches: &ArgMatches<'a>) -> Steps<'a>
     ensures { AreSteps (rows_in matches.now) result }
 {
@@ -257,7 +258,7 @@ fn chosen_steps<'a>(matches: &ArgMatches<'a>) -> Steps<'a>
     }
 }
 
-/// The seeds that a text spells as `1..1000`.
+/// Returns the seeds that a text such as `1..1000` spells. None if it spells none, or more than 100,000.
 fn seeds_in(text: &str) -> Option<Seeds>
     ensures { IfSome result (λ seeds. (seeds.first ≤ seeds.last) × (seeds.last ≤ seeds.first + 99999)) }
 {
@@ -271,7 +272,7 @@ fn seeds_in(text: &str) -> Option<Seeds>
     }
 }
 
-/// The orders that `plan --seeds` asks for, or None without this option.
+/// Returns the orders that `plan --seeds` asks for, or None without this option.
 fn given_orders<'a>(alloc: Global, matches: &ArgMatches<'a>) -> Result<Option<Orders<'a>>, Refusal>
     ensures range { IfOk result (λ orders. IfSome orders AreInRange) }
     ensures asked { IfOk result (AreOrders (rows_in matches.now)) }
@@ -289,7 +290,7 @@ fn given_orders<'a>(alloc: Global, matches: &ArgMatches<'a>) -> Result<Option<Or
     }))
 }
 
-/// The request of `live`, whose numbers are in their ranges.
+/// Returns the request of `live`, whose numbers are in their ranges.
 fn live<'a>(alloc: Global, matches: &ArgMatches<'a>) -> Result<Request<'a>, Refusal>
     ensures range { IfOk result IsInRange }
     ensures asked { IfOk result (AsksBy (codes "live") (rows_in matches.now)) }
@@ -303,7 +304,7 @@ fn live<'a>(alloc: Global, matches: &ArgMatches<'a>) -> Result<Request<'a>, Refu
     })
 }
 
-/// The request of `race`, whose numbers are in their ranges.
+/// Returns the request of `race`, whose numbers are in their ranges.
 fn race<'a>(matches: &ArgMatches<'a>) -> Result<Request<'a>, Refusal>
     ensures range { IfOk result IsInRange }
     ensures asked { IfOk result (AsksBy (codes "race") (rows_in matches.now)) }
@@ -314,7 +315,7 @@ fn race<'a>(matches: &ArgMatches<'a>) -> Result<Request<'a>, Refusal>
     })
 }
 
-/// The request of `draw`, whose width is in its range.
+/// Returns the request of `draw`, whose width is in its range.
 fn draw<'a>(matches: &ArgMatches<'a>) -> Result<Request<'a>, Refusal>
     ensures range { IfOk result IsInRange }
     ensures asked { IfOk result (AsksBy (codes "draw") (rows_in matches.now)) }
@@ -326,7 +327,7 @@ fn draw<'a>(matches: &ArgMatches<'a>) -> Result<Request<'a>, Refusal>
     })
 }
 
-/// The run that is asked for: of a file, or else of standard input.
+/// Returns the run that is asked for: of a file, or else of standard input.
 fn run<'a>(
     alloc: Global,
     file: Option<&'a str>,
@@ -342,7 +343,7 @@ fn run<'a>(
     })
 }
 
-/// The request of the command of this name.
+/// Returns the request of the command of this name, one of those that `clap` knows. The last of them is `explain`.
 fn request_by<'a>(
     alloc: Global,
     command: &str,
@@ -393,7 +394,7 @@ fn request_by<'a>(
     }
 }
 
-/// The request of the command, or without one a run of standard input. `--expect` before a command is refused.
+/// Returns the request of the command, or without one that of a run of standard input. `--expect` before a command is refused.
 fn request_of<'a>(alloc: Global, matches: &ArgMatches<'a>) -> Result<Request<'a>, Refusal>
     ensures range { IfOk result IsInRange }
     ensures asked { IfOk result (Asks (rows_in matches.now) (subcommand_rows_of matches.now)) }
@@ -407,7 +408,7 @@ fn request_of<'a>(alloc: Global, matches: &ArgMatches<'a>) -> Result<Request<'a>
     request_by(alloc, command, of_command)
 }
 
-/// What the words ask for by the program's commands, or the error that is reported.
+/// Returns what the words ask for by the program's commands, or the error that is reported.
 fn parsed<'a>(
     alloc: Global,
     program: &mut Command<'a>,
@@ -434,9 +435,8 @@ pub fn no_text(alloc: Global, version: &str) -> Error {
     error.unwrap_or_else(|memory| Error::from(memory))
 }
 
-/// Returns what the arguments ask for, and when a failure is explained, if they say so. The first one is the program's own name.
-/// `--help` and `--version`, which prints this version, are errors, too: their `exit_code` is 0. It is 2 if the arguments are
-/// wrong.
+/// Returns what the arguments, after the program's name, ask for, and when a failure is explained, if they say so. `--help` and
+/// `--version`, which prints this version, are errors with the `exit_code` 0. For wrong arguments it is 2.
 pub fn parse<'a>(
     alloc: Global,
     words: &'a [String],

@@ -8,12 +8,12 @@ use line_reader::words::length_before;
 /// How many states are told apart at most.
 const MOST: usize = 10;
 
-/// The word of this number, from 0, of a line.
+/// Returns word `number` of a line, from 0, or an empty one if the line has fewer words.
 fn word(line: &[u8], number: usize) -> &[u8] {
     line.split(|byte| *byte == b' ').nth(number).unwrap_or(&[])
 }
 
-/// What a thread's line says of its output, with the word `out`.
+/// Returns what a thread's line says of its output, from the word `out` on, or nothing if it has none.
 fn output_of(line: &[u8]) -> &[u8] {
     match line
         .windows(4)
@@ -24,14 +24,14 @@ fn output_of(line: &[u8]) -> &[u8] {
     }
 }
 
-/// The line of a state that begins with this word, as `t0`.
+/// Returns the line of a state that begins with this word, such as `t0`, or `None` if there is none.
 fn line_of<'a>(state: &'a [u8], subject: &[u8]) -> Option<&'a [u8]> {
     state
         .split(|byte| *byte == b'\n')
         .find(|line| word(*line, 0) == subject)
 }
 
-/// The name of the thread that a line is about, or its first word if it is about none.
+/// Returns the name of the thread that a line is about, or the line's first word if it is about something else.
 fn name_of<'a>(names: &[&'a [u8]], line: &'a [u8]) -> &'a [u8] {
     let subject = &line[..length_before(b' ', line)];
     match subject {
@@ -46,8 +46,8 @@ fn name_of<'a>(names: &[&'a [u8]], line: &'a [u8]) -> &'a [u8] {
     }
 }
 
-/// Writes how the line of a thread differs from its other one: in its status, its output and whether it is interrupted, or else in its
-/// row, its registers or its stack.
+/// Writes how a thread's line differs from its line in the other state, `first`: in its status, its output and whether it is
+/// interrupted, or else in its row, its registers or its stack.
 fn push_thread<E: Sink>(errors: &mut E, line: &[u8], first: &[u8]) -> Result<(), Failed> {
     let output = output_of(line);
     let mut before: &[u8] = b" ";
@@ -84,7 +84,7 @@ fn push_thread<E: Sink>(errors: &mut E, line: &[u8], first: &[u8]) -> Result<(),
     Ok(())
 }
 
-/// Writes how a line differs from the other one that is about the same. There is none if the other state has this cell at 0.
+/// Writes how a line differs from `first`, the other state's line about the same: `None` for a cell that is 0 there.
 fn push_line<E: Sink>(
     errors: &mut E,
     names: &[&[u8]],
@@ -98,7 +98,7 @@ fn push_line<E: Sink>(
     }
 }
 
-/// Writes how a state differs from another one.
+/// Writes how a state differs from another one, `first`: each line that differs, and each cell that is 0 only in this state.
 fn push_state<E: Sink>(
     errors: &mut E,
     names: &[&[u8]],
@@ -127,7 +127,7 @@ fn push_state<E: Sink>(
     errors.push(b"\n")
 }
 
-/// Writes the seed of an outcome as a plan has it, or the number of its line if it has none.
+/// Writes the seed of an outcome, such as `?7`, or else the number of its line in the report, such as `line 2`.
 fn push_seed<E: Sink>(errors: &mut E, outcome: &Outcome, place: usize) -> Result<(), Failed> {
     match outcome.seed {
         Some(seed) => {

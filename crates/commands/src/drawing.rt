@@ -76,10 +76,12 @@ impl Picture for Drawing {
 
     ghost kind = { picture.Drawing };
 
+    /// Returns that this picture is a drawing, not a page.
     fn kind(&self) -> PictureKind {
         PictureKind::Drawing
     }
 
+    /// Returns the drawing of a program's run under a schedule, or why there is none.
     fn of(&self, alloc: Global, program: Program<'_>, schedule: &[u8]) -> Result<Shown, Fault> {
         drawing_of(alloc, self.width, program, schedule)
     }

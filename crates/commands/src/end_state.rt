@@ -22,6 +22,7 @@ impl PartialEq for EndState {
 
     ghost laws = { Prim.search (comparing, rules) };
 
+    /// Returns whether both texts have the same bytes.
     fn eq(&self, other: &EndState) -> bool {
         self.text.as_slice() == other.text.as_slice()
     }
@@ -36,6 +37,7 @@ impl Hash for EndState {
 
     ghost respects_eq = { Prim.search (hashing, rules) };
 
+    /// Hashes the text, so that an end state can be the key of a map.
     fn hash<H: Hasher>(&self, state: &mut H) {
         state.write(self.text.as_slice());
     }

@@ -70,7 +70,7 @@ impl Front {
         Ok(self)
     }
 
-    /// Takes the next bytes, up to the first with which it fails as above.
+    /// Takes the next bytes in order. Fails at the first that makes a fault, more than `most` choices, or too many bytes.
     fn with_bytes(self, kind: PictureKind, most: u64, piece: &[u8]) -> Result<Front, Fault>
         requires { most_of kind ≤ most }
         ensures bytes { IfOk result (λ front. front ≡ self ++ piece.now) }
@@ -87,7 +87,7 @@ impl Front {
     }
 }
 
-/// Returns so many choices and those of the first of these runs, if there is one.
+/// Returns `choices` and the number of choices of the first of these runs, if there is one: a byte ends at most one run.
 fn with_first(choices: u64, runs: &[Run]) -> u64
     ensures { result ≤ choices + length (choices_of runs.now) }
 {
@@ -97,8 +97,8 @@ fn with_first(choices: u64, runs: &[Run]) -> u64
     }
 }
 
-/// Reads a schedule for a picture of this kind: to its end, or as far as the byte that makes its fault or ends the first choice
-/// behind `most`, without waiting for what follows. Fails with that fault, or with `Read` if there are more than 16,777,216 bytes.
+/// Reads a schedule for a picture: to its end, or only up to a fault or to the first choice beyond `most`, without waiting for
+/// more. Then it fails with that fault, with `TooLong`, or with `Read` if there are more than 16,777,216 bytes.
 pub(crate) fn read_enough<S: Source>(
     alloc: Global,
     source: &mut S,
@@ -123,5 +123,6 @@ pub(crate) fn read_enough<S: Source>(
         }
         front = front.with_bytes(kind, most, &piece[..count])?;
     }
+    // Each piece has at least a byte: so many pieces are too many bytes, and `with_bytes` has failed.
     unreachable!()
 }

@@ -58,7 +58,7 @@ pub fn report_runs<R: Threads + Wait + Sync, G: Pausing + Sync, K: Sink>(
     push_outcomes(alloc, asked.expected, &outcomes, output)
 }
 
-/// Plays all runs. Returns each state that some ended in, with how many, the most frequent first.
+/// Plays all runs. Returns each state in which some of them ended, with how many did, the most frequent first.
 fn outcomes_of<R: Threads + Wait + Sync, G: Pausing + Sync>(
     rt: &R,
     alloc: Global,

@@ -14,7 +14,7 @@ use schedule_reader::{Run, write_schedule};
 use std::alloc::{AllocError, Global};
 use thread_machine::Choice;
 
-/// Returns a choice by its thread's name, as `ann`, or `xann` for an expiry. If the thread has no name, this is left out.
+/// Returns a choice by its thread's name, as `ann`, or `xann` for an expiry. Without a name it is empty, or only `x`.
 #[tactic(auto, using(crate::proofs::Naming::name_at))]
 fn name_word(alloc: Global, names: &[&[u8]], choice: Choice) -> Result<Vec<u8>, AllocError>
     ensures { IfOk result (λ word. word.items ≡ name_word (map name_seen names.now) choice) }

@@ -61,10 +61,12 @@ impl<'a> Picture for Page<'a> {
 
     ghost kind = { picture.Page };
 
+    /// Returns that this picture is a page, not a drawing.
     fn kind(&self) -> PictureKind {
         PictureKind::Page
     }
 
+    /// Returns the page of a program's run under a schedule, or why there is none.
     fn of(&self, alloc: Global, program: Program<'_>, schedule: &[u8]) -> Result<Shown, Fault> {
         page_of(alloc, self.frame, program, schedule)
     }

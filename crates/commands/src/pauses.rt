@@ -27,7 +27,7 @@ pub struct RunGate<'a, G> {
 }
 
 impl Pauses {
-    /// Returns the gate of run number `run`, which has pauses of its own, or none without a seed. Then `behind` is passed.
+    /// Returns the gate of run number `run`: a pause by the seed, if there is one, and then the gate `behind`.
     pub fn of_run<'a, G>(self, run: u32, behind: &'a G) -> RunGate<'a, G>
         ensures stirred { result.stirred ≡ option_map (λ seed. record { seed = seed; run = run }) self.seed }
         ensures behind { result.behind.now ≡ behind.now }
@@ -44,12 +44,13 @@ impl Pauses {
 
 /// What a worker passes before each of its turns: a pause, and a gate behind it.
 pub trait Pausing {
-    /// Passes the gate after a pause, before turn `step` of a thread.
+    /// Makes a pause, before turn `step` of a thread, and then passes the gate.
     fn pass_after(&self, pause: Pause, thread: u8, step: u32);
 }
 
-/// At a gate it waits as long as the pause says, and then passes. A test may only note the pause.
+/// A gate really pauses. A test may have something else here, which only notes the pause.
 impl<G: Gate> Pausing for G {
+    /// Waits as long as the pause says, and then passes this gate.
     fn pass_after(&self, pause: Pause, thread: u8, step: u32) {
         pause.wait();
         self.pass(thread, step);
@@ -57,7 +58,7 @@ impl<G: Gate> Pausing for G {
 }
 
 impl<'a, G: Pausing> Gate for RunGate<'a, G> {
-    /// Passes the other gate after the seed's pause for this turn, or after none without a seed.
+    /// Passes the gate `behind` after the pause that the seed gives for turn `step` of a thread, or after none without a seed.
     fn pass(&self, thread: u8, step: u32) {
         let pause = match self.stirred {
             Some(stirred) => stirred.pause(thread, step),

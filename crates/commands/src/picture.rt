@@ -21,11 +21,12 @@ pub trait Picture {
     // Which picture it is.
     ghost kind: { PictureKind };
 
-    /// Returns which picture it is.
+    /// Returns which picture it is: a page or a drawing.
     fn kind(&self) -> PictureKind
         ensures { result ≡ kind };
 
-    /// Returns the picture of a program's run under a schedule as a whole, or why there is none.
+    /// Returns the whole picture of a program's run under a schedule, and the choice of a thread that doesn't exist, if one
+    /// ended the run. Fails if the program or the schedule is refused, or without memory.
     fn of(&self, alloc: Global, program: Program<'_>, schedule: &[u8]) -> Result<Shown, Fault>
         requires { length schedule.now ≤ most_bytes }
         ensures picture { IfOk result (λ shown. is_picture self.now program.entry schedule.now shown.bytes.items) }

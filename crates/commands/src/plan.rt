@@ -56,6 +56,7 @@ pub fn thread_names<'a>(
 }
 
 /// Loads an image's program, and returns it with the names of its threads, in order. A thread without a name has an empty one.
+/// `each_program_is_whole` does nothing but state that there are at most 64 threads.
 pub fn loaded_program<'a>(
     alloc: Global,
     image: Image,
@@ -99,8 +100,8 @@ fn plan_words(alloc: Global, plan: &[u8], names: &[&[u8]]) -> Result<Words, Unpl
     }
 }
 
-/// Plays a plan of at most `most` choices on a loaded program whose threads have these names. Returns its runs of choices, and the
-/// machine after them.
+/// Plays a plan of at most `most` choices on a loaded program whose threads have these names. Returns its runs of choices, and
+/// the machine after them. Fails only for a fault of the plan, or without memory.
 pub(crate) fn planned_on(
     alloc: Global,
     program: Loaded,
@@ -143,7 +144,7 @@ pub fn planned_in(alloc: Global, program: &Program<'_>, plan: &[u8]) -> Result<P
     planned_on(alloc, loaded, names.as_slice(), plan, MOST_CHOICES)
 }
 
-/// Writes a plan's choices as a line, with `names` if given. Returns whether the plan was cut off.
+/// Writes a plan's choices as a line, with `names` if given, or nothing without memory. Returns whether the plan was cut off.
 fn push_planned<K: Sink>(
     alloc: Global,
     planned: &Planned,
@@ -168,7 +169,7 @@ fn push_planned<K: Sink>(
     Ok(planned.stopped)
 }
 
-/// Plays a plan of at most `most` choices on a program, which it uses up. Returns its runs of choices, and the names of the threads.
+/// Plays a plan of at most `most` choices on a program, and uses it up. Returns its runs of choices, and the threads' names.
 fn planned_of<'a>(
     alloc: Global,
     program: Program<'a>,

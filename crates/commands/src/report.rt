@@ -45,7 +45,7 @@ fn push_seed(text: &mut Vec<u8>, seed: Option<u64>) -> Result<(), AllocError>
     Ok(())
 }
 
-/// Appends a schedule: as a plan with `names` if there are some, and as it is if there are none or it has a fault.
+/// Appends a schedule: as a plan with `names`, or as it is if there are none or it has a fault. It fails if it is too long.
 fn push_schedule(
     alloc: Global,
     text: &mut Vec<u8>,

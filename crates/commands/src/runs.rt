@@ -20,7 +20,7 @@ use thread_runner::{Gate, LiveRun, run_live};
 use workbench::fault::Fault;
 use workbench::live::fault_of_live;
 
-/// Plays a copy of a program on real threads, with at most `limit` steps.
+/// Plays a copy of a program on real threads, with at most `limit` steps. Returns its recorded schedule and how it ended.
 fn run_once<R: Threads + Wait + Sync, G: Gate + Sync>(
     rt: &R,
     alloc: Global,
@@ -44,7 +44,7 @@ fn run_once<R: Threads + Wait + Sync, G: Gate + Sync>(
     }
 }
 
-/// Returns a schedule in which a choice that repeats has one token, as `t0*3` for `t0 t0 t0`. This is how it is shown.
+/// Returns the same schedule with repeated choices joined, as `t0*3` for `t0 t0 t0`. It fails only without memory.
 fn shown(alloc: Global, schedule: &[u8]) -> Result<String, Fault>
     requires { length schedule.now ≤ 4000000000 }
     ensures fault { OnOk result ((finished_schedule schedule.now).fault ≡ None) }

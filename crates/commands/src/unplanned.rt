@@ -21,6 +21,7 @@ pub enum Unplanned {
 impl From<Fault> for Unplanned {
     ghost from_gives = { λ fault unplanned. unplanned ≡ why.Fault fault };
 
+    /// Makes a command's fault the reason why no schedule is written.
     fn from(fault: Fault) -> Unplanned {
         Unplanned::Fault(fault)
     }

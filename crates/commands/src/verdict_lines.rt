@@ -40,7 +40,7 @@ fn not_a_trace(alloc: Global, trace: Option<&[u8]>) -> Result<Vec<u8>, AllocErro
     Ok(text)
 }
 
-/// Returns the lines that follow a verdict: none if the trace is the run's.
+/// Returns the lines that follow a verdict: none for `Same`, or else the trace's line and the run's, or what a line may be.
 pub fn shown(alloc: Global, judged: &Judged) -> Result<Vec<u8>, AllocError>
     ensures { IfOk result (λ text. StandsBehind judged.now.told.verdict judged.now.trace judged.now.told.line text.items) }
 {

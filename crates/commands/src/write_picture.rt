@@ -18,8 +18,8 @@ use workbench::fault::Fault;
 use workbench::run_line::split_at_run;
 
 /// Writes the picture of a program under the schedule in `schedule` to `output`, once it is whole. Returns the choice of a
-/// thread that doesn't exist, with its place from 1, if one ended the run. A schedule isn't read further than its fault, or than
-/// one choice too many. With `to_end` one that has too many choices is read on, and a fault behind these is reported.
+/// thread that doesn't exist, with its place from 1, if one ended the run. It doesn't read past a fault, or past the first
+/// choice too many. With `to_end` it reads on after too many choices, and reports a fault among these, if there is one.
 pub fn make<P: Picture, S: Source, K: Sink>(
     alloc: Global,
     picture: &P,
@@ -48,8 +48,8 @@ pub fn make<P: Picture, S: Source, K: Sink>(
     }
 }
 
-/// Returns why a program has no picture, if reading its schedule failed like this. A program that can't be loaded has no schedule
-/// that could be refused, so its own fault is returned.
+/// Returns why a program has no picture, if reading its schedule failed with `fault`. If the program can't be loaded, that is
+/// the reason, as it has no schedule that could be refused.
 fn first_fault(alloc: Global, image: Image, fault: Fault) -> Fault
     ensures refused { (kind : PictureKind) (front : List ℕ) → ShowsNone kind fault front
         → status_of result ≡ 3 → HaveNoPictureSoFar kind result image front }
@@ -65,7 +65,8 @@ fn first_fault(alloc: Global, image: Image, fault: Fault) -> Fault
     }
 }
 
-/// Returns the program and the schedule of a file: a text has one after its line `.run`. An image, or a text without, has none.
+/// Returns a file's program and schedule: in a text, what precedes and follows the line `.run`. Otherwise the schedule is
+/// empty.
 pub fn parts_of(file: &[u8]) -> (&[u8], &[u8])
     ensures program { result.0.now ≡ program_of file.now }
     ensures schedule { result.1.now ≡ schedule_behind file.now }
@@ -78,8 +79,8 @@ pub fn parts_of(file: &[u8]) -> (&[u8], &[u8])
     }
 }
 
-/// Writes a picture under this schedule, once it is whole. Returns the choice of a thread that doesn't exist, with its place from
-/// 1, if one ended the run.
+/// Writes a picture under this schedule, once it is whole. Returns the choice of a thread that doesn't exist, with its place,
+/// from 1, if one ended the run.
 pub fn write<P: Picture, K: Sink>(
     alloc: Global,
     picture: &P,

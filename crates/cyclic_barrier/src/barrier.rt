@@ -43,7 +43,7 @@ impl Model for Barrier {
 impl Barrier {
     ghost use Rattle.cyclic_barrier.specs.Barrier.{fresh, number_waiting};
 
-    /// Makes a barrier with so many parties, with or without an action. Returns `None` for 0 parties.
+    /// Makes a barrier for this number of parties, with or without an action. Returns `None` for 0 parties, which Java refuses.
     pub fn new(parties: u16, action: bool) -> Option<Barrier>
         ensures some { IsSome result ↔ (0 < parties) }
         ensures fresh { IfSome result (λ b. b ≡ fresh parties action) }
@@ -61,7 +61,7 @@ impl Barrier {
         }
     }
 
-    /// `getParties`: how many threads have to arrive for the barrier to trip.
+    /// Returns how many threads have to arrive for the barrier to trip, as `getParties` does.
     pub fn parties(&self) -> u16
         ensures { result ≡ self.now.parties }
     {
@@ -75,21 +75,21 @@ impl Barrier {
         self.action
     }
 
-    /// `isBroken`: returns whether it broke since it was made or last reset.
+    /// Returns whether the barrier broke since it was made or last reset, as `isBroken` does.
     pub fn is_broken(&self) -> bool
         ensures { result ≡ self.now.broken }
     {
         self.broken
     }
 
-    /// Returns the thread that runs the action, if one does. Then all the others wait.
+    /// Returns the thread that runs the action. `None`: no thread does. While one does, all other parties wait.
     pub fn runner(&self) -> Option<u8>
         ensures { result ≡ self.now.runner }
     {
         self.runner
     }
 
-    /// `getNumberWaiting`: returns how many threads wait, without those released and without the runner.
+    /// Returns how many threads wait, as `getNumberWaiting` does: without those released and without the runner.
     pub fn number_waiting(&self) -> u16
         ensures { result ≡ number_waiting self.now }
     {

@@ -121,7 +121,7 @@ fn has_star(rest: &[u8]) -> bool
     rest.iter().any(|byte| *byte == b'*')
 }
 
-/// Returns how few runs these tokens name, or `None` if they have a fault. It needs no memory.
+/// Returns whether these tokens name no run, one (which it returns), or more. `None`: they have a fault. It needs no memory.
 fn few_in(tokens: &[u8]) -> Option<Few>
     requires { length tokens.now < 9223372036854775807 }
     ensures { result ≡ option_map few_of (runs_in tokens.now) }
@@ -132,7 +132,7 @@ fn few_in(tokens: &[u8]) -> Option<Few>
     }
 }
 
-/// Returns the runs that these tokens name, or `None` if they have a fault.
+/// Returns the runs that these tokens name. `None`: they have a fault. `Err`: no memory.
 fn runs_in(alloc: Global, tokens: &[u8]) -> Result<Option<Vec<Run>>, AllocError>
     requires { length tokens.now < 9223372036854775807 }
     ensures { IfOk result (λ runs. option_map (λ r. r.items) runs ≡ runs_in tokens.now) }
@@ -182,7 +182,7 @@ fn is_row(word: &[u8]) -> bool
     !word.is_empty() && word.len() <= 5 && are_digits(word)
 }
 
-/// Returns the row's number if it is the only word, or else `None`.
+/// Returns the row's number if it is the only word. `None`: it isn't, or is no number of 1 to 5 digits.
 fn row_in(rest: &[u8]) -> Option<usize>
     ensures { result ≡ row_in rest.now }
 {
@@ -214,7 +214,7 @@ fn clear_of(row: Option<usize>) -> Command
     }
 }
 
-/// Returns the thread, 0 to 63, that one or two digits name, or `None`.
+/// Returns the thread, 0 to 63, that one or two digits name. `None`: these bytes name no such thread.
 fn thread_of(digits: &[u8]) -> Option<u8>
     ensures { IfSome result (λ thread. line_order (103 ∷ 32 ∷ 116 ∷ digits.now)
         ≡ Go (run_of (choice_of false thread) 1 ∷ [])) }
@@ -233,7 +233,7 @@ fn thread_of(digits: &[u8]) -> Option<u8>
     }
 }
 
-/// Returns the turn of a line such as `g t2`, or `None`. It is frequent, and needs no memory.
+/// Returns the turn of a line such as `g t2`, which is frequent, and needs no memory. `None`: it is no such line.
 pub fn lone_turn(line: &[u8]) -> Option<Run>
     ensures turn { IfSome result (λ run. line_order line.now ≡ Go (run ∷ [])) }
 {
@@ -249,7 +249,7 @@ pub fn lone_turn(line: &[u8]) -> Option<Run>
     }
 }
 
-/// Returns how few runs a line of `g` names, or `None` if they have a fault. It needs no memory.
+/// Returns whether a line of `g` names no run, one (which it returns), or more. `None`: it has a fault. It needs no memory.
 pub fn few_of_go(line: &[u8]) -> Option<Few>
     requires { is_go line.now ≡ true }
     ensures { result ≡ option_map few_of (runs_in (rest_of line.now)) }

@@ -20,7 +20,7 @@ fn put_before(bytes: &mut [u8; ROOM], from: usize, word: &[u8]) -> usize
     start
 }
 
-/// Puts `word`, a number and `end` at the end of a buffer, from the last one on, and returns the word's place.
+/// Puts `word`, a number and `end` at the end of a buffer, from the last one on, and returns where they begin.
 #[inline(always)]
 pub fn put_number_line(bytes: &mut [u8; ROOM], word: &[u8], number: u64, end: &[u8]) -> usize
     requires { length word.now + length end.now ≤ 20 }

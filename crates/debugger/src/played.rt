@@ -36,7 +36,7 @@ fn is_same(one: Choice, other: Choice) -> bool
     one.thread == other.thread && one.expiry == other.expiry
 }
 
-/// Appends a run of this choice, with as many of these times as a token can say. Returns how many.
+/// Appends a run of this choice, with at most 1,000,000,000 of these times. Returns how many times it has.
 fn push_own(runs: &mut Vec<Run>, choice: Choice, times: u32) -> u32
     requires { vec_len runs.old < vec_capacity runs.old }
     ensures runs { runs.new.items ≡ runs.old.items ++ run_of choice result ∷ [] }
@@ -60,7 +60,7 @@ impl Played {
         }
     }
 
-    /// Returns the choices as runs, in order. A choice that is repeated is one run, as far as a token can say it.
+    /// Returns the choices as runs, in order. A choice that is repeated is one run, with up to 1,000,000,000 times.
     pub fn runs(&self) -> &[Run]
         ensures runs { result.now ≡ self.now }
         ensures joined { AreJoined result.now }
@@ -68,7 +68,7 @@ impl Played {
         self.runs.as_slice()
     }
 
-    /// Appends a choice, some of so many times: as many as its run has room for. Returns how many.
+    /// Appends a choice as often as its run has room for, but at most `times` times. Returns how often. `Err`: no memory.
     fn push_some(&mut self, choice: Choice, times: u32) -> Result<u32, AllocError>
         requires { 0 < times }
         ensures choices { IfOk result (λ some. choices_of self.new ≡ choices_of self.old ++ replicate some choice) }

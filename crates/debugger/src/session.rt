@@ -95,13 +95,14 @@ impl Debugger {
         })
     }
 
+    /// Returns the machine that the debugger plays.
     pub fn machine(&self) -> &Machine
         ensures { result.now ≡ self.now.machine }
     {
         &self.played
     }
 
-    /// Plays one choice, and keeps what takes it back. If it fails, the debugger is as before.
+    /// Plays one choice, and keeps what takes it back. If the machine refuses it or is out of memory, nothing has changed.
     #[inline(always)]
     pub fn step(&mut self, choice: Choice) -> Result<Event, StepFault>
         ensures played { IfOk result (λ event. record { world = world_of (self.new).machine; event = event }
@@ -124,7 +125,7 @@ impl Debugger {
         Ok(event)
     }
 
-    /// Takes back the last choice. The breakpoints stay. Fails if nothing is kept to take back.
+    /// Takes back the last choice. The breakpoints stay. `Err`: nothing is kept to take back, and nothing has changed.
     pub fn back(&mut self) -> Result<(), NoHistory>
         ensures session { self.new ≡ went_back self.old }
         ensures none { IsErr result ↔ (self.old.past ≡ []) }

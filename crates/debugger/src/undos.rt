@@ -55,6 +55,7 @@ impl Undos {
             × OnOk result (self.new ≡ with_note undo self.old)) }
         ensures err { OnErr result (self.new ≡ self.old) }
     {
+        // This can't fail, because one place is always free. What the `pop`s below return is no longer needed.
         let _ = self.kept.push_front(Undo::new());
         let Some(undo) = self.kept.get_mut(0) else {
             unreachable!()
@@ -75,7 +76,7 @@ impl Undos {
         self.kept.len()
     }
 
-    /// Returns what undoes the last choice, or `None` if that isn't kept.
+    /// Returns what undoes the last choice. `None`: that isn't kept.
     pub fn newest(&self) -> Option<&Undo>
         ensures { option_copied result ≡ slice_get self.now.notes 0 }
     {

@@ -23,14 +23,14 @@ const BROKEN_PIPE: i32 = 32;
 /// The system's number for a folder that is read as a file.
 const IS_A_FOLDER: i32 = 21;
 
-/// Whether the name of a file looks like a plan: it has a blank, a star or a `?`, or ends with a dot, and isn't that of a program.
+/// Returns whether a file's name looks like a plan: it has a blank, a star or a `?`, or ends with a dot; and no program has it.
 fn is_like_plan(name: &str) -> bool {
     !name.contains('/')
         && !is_of_program(name)
         && (name.ends_with(".") || name.contains(' ') || name.contains('*') || name.contains('?'))
 }
 
-/// What helps if no file of this name can be opened: it is `-`, a page, a path of Windows or a plan, or near to a file's name.
+/// Returns advice if no file has this name: it is `-`, a page, a path of Windows or a plan, or near to a name; else None.
 fn hint_at_name(rt: &HostRuntime, name: &str) -> Hint {
     let alloc = rt.alloc();
     let helps = match name {
@@ -51,7 +51,7 @@ fn hint_at_name(rt: &HostRuntime, name: &str) -> Hint {
     help(alloc, helps.as_bytes())
 }
 
-/// What helps if a file can't be read: a folder's programs.
+/// Returns the names of a folder's programs if it was read as a file. None at any other error.
 fn hint_at_read(rt: &HostRuntime, name: &str, error: &io::Error) -> Hint {
     if error.raw_os_error() != Some(IS_A_FOLDER) {
         return Ok(None);
@@ -67,7 +67,7 @@ fn hint_at_read(rt: &HostRuntime, name: &str, error: &io::Error) -> Hint {
     help_by_names(rt.alloc(), before, names.as_slice())
 }
 
-/// Reports a fault of a file with the system's reason.
+/// Reports a fault of a file with the system's reason. Without memory for its text, the reason is left out.
 fn fail_by(
     report: &Report<'_>,
     fault: Fault,
@@ -98,7 +98,7 @@ pub fn fail_for_one_file(report: &Report<'_>, name: &str) -> Reported {
     report.fail_for(Fault::Write, name, reason, Ok(None))
 }
 
-/// Reports a fault of a command that read the file `input` and wrote `output`. If the system has no reason, a read was too long.
+/// Reports a fault of a command that read `input` and wrote `output`. A read that fails without a reason was too long.
 pub fn fail(report: &Report<'_>, input: &str, output: &str, fault: Fault) -> Reported {
     match (fault, report.reason.error()) {
         (Fault::Read, Some(error)) => {

@@ -32,7 +32,7 @@ pub fn push_shown<E: Sink>(errors: &mut E, bytes: &[u8]) -> Result<(), Failed> {
     Ok(())
 }
 
-/// The byte from which on a line is shown: 0 if the place is then seen whole, or else one with the place in the middle.
+/// Returns the byte from which on a line is shown: 0 if the place is then seen whole, or else one with the place in the middle.
 fn window(line: &[u8], place: WordPlace) -> usize
     ensures begin { result ≤ place.at }
     ensures end { place.at < length line.now → place.at ≤ result + 72 }
@@ -59,7 +59,7 @@ impl<'a> Place<'a> {
         })
     }
 
-    /// Returns the place of the byte at this offset of what is watched, if it is still known.
+    /// Returns the place of the byte at this offset of what is watched. None if that isn't kept any more.
     pub fn of_byte<S>(watched: &'a Watched<S>, offset: u64) -> Option<Place<'a>> {
         let (line, at) = watched.line_of(offset)?;
         Some(Place {
@@ -68,7 +68,7 @@ impl<'a> Place<'a> {
         })
     }
 
-    /// Returns the whole line of this number, from 1, of what is watched, if it is still known.
+    /// Returns the whole line of this number, from 1, of what is watched. None if that isn't kept any more.
     pub fn of_line<S>(watched: &'a Watched<S>, number: u64) -> Option<Place<'a>> {
         Some(Place {
             line: watched.line(number)?,

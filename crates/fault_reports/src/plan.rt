@@ -24,12 +24,12 @@ pub struct PlanFile<'a> {
     pub bytes: &'a [u8],
 }
 
-/// Whether there is a file of this name.
+/// Returns whether there is a file of this name.
 fn is_file(rt: &HostRuntime, path: &str) -> bool {
     fs::metadata(rt, path).is_ok_and(|metadata| metadata.is_file())
 }
 
-/// What helps if a plan's text is `-` or the name of a file, and was meant as that.
+/// Returns advice if a plan's text is `-` or the name of a file, and was meant as that. Else None.
 fn helps_at_file(rt: &HostRuntime, plan: PlanFile<'_>) -> Option<&'static str> {
     let path = str::from_utf8(plan.bytes).unwrap_or("");
     if plan.name != ARGUMENT {
@@ -57,12 +57,12 @@ pub fn fail(report: &Report<'_>, plan: PlanFile<'_>, names: &[&[u8]], fault: Pla
     report.fail(Unplanned::Plan(fault), plan.name, place, hint)
 }
 
-/// Whether a word has no end without a count: `ann.`, `..`, `?7`. So has `?7*50`: the caller looks for a `*`.
+/// Returns whether a word plays without an end: `ann.`, `..`, `?7`. It is true for `?7*50`, too: the caller looks for the `*`.
 fn is_without_count(word: &[u8]) -> bool {
     word.ends_with(b".") || word.starts_with(b"?")
 }
 
-/// The line's number and the place of the only word without a count, in a plan that has no count. None if there are two.
+/// Returns the line and the place of the only word that plays without an end. None if a word has a count, or two are endless.
 fn endless_word(alloc: Global, plan: &[u8]) -> Result<Option<(u64, WordPlace)>, AllocError> {
     let mut found = None;
     let mut number: u64 = 0;
@@ -82,7 +82,7 @@ fn endless_word(alloc: Global, plan: &[u8]) -> Result<Option<(u64, WordPlace)>, 
     Ok(found)
 }
 
-/// Writes that a plan stopped at 1,000,000 choices.
+/// Writes that a plan stopped at 1,000,000 choices. If standard error can't be written, that isn't reported.
 pub fn push_stopped(report: &Report<'_>) {
     let _ = WritePort::new(report.rt.stderr()).push(b"stopped at 1000000 choices\n");
 }

@@ -18,7 +18,7 @@ pub struct ProgramFile<'a> {
 }
 
 impl<'a> ProgramFile<'a> {
-    /// A file that is a program as a whole.
+    /// Returns a file of which all bytes are read as the program: a line `.run` doesn't end it.
     pub fn whole(name: &'a str, bytes: &'a [u8]) -> ProgramFile<'a> {
         ProgramFile {
             name,
@@ -39,7 +39,7 @@ fn fail_in_text(report: &Report<'_>, file: ProgramFile<'_>, placed: PlacedFault)
     )
 }
 
-/// Reports why a file has no program: a fault of its text or image, or too little memory.
+/// Reports why a file has no program: a fault of its text (status 3) or image, or too little memory.
 pub fn fail_to_read(report: &Report<'_>, file: ProgramFile<'_>, fault: Fault) -> Reported {
     match fault {
         Fault::Asm(placed) if fault.status() == 3 => fail_in_text(report, file, placed),
@@ -47,7 +47,7 @@ pub fn fail_to_read(report: &Report<'_>, file: ProgramFile<'_>, fault: Fault) ->
     }
 }
 
-/// Reports why a file's program isn't loaded. It may be empty, or have its threads below the line `.run`.
+/// Reports why a file's program isn't loaded: the place and advice, or that memory has run out (status 4).
 pub fn fail_to_load(report: &Report<'_>, file: ProgramFile<'_>, fault: LoadFault) -> Reported {
     let why = Unplanned::Fault(Fault::Load(fault));
     if why.status() == 4 {

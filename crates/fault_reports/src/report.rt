@@ -53,7 +53,7 @@ pub struct Report<'a> {
     pub reason: Reason,
 }
 
-/// What VUTHGAL_EXPLAIN says. None if it isn't set, or has another value.
+/// Returns what VUTHGAL_EXPLAIN says. None if it isn't set, or has another value.
 fn when_set(rt: &HostRuntime) -> Option<When> {
     let mut room = [0u8; ROOM];
     match rt.var(VARIABLE, &mut room) {
@@ -63,7 +63,7 @@ fn when_set(rt: &HostRuntime) -> Option<When> {
 }
 
 impl<'a> Report<'a> {
-    /// Returns a report that explains as the arguments say, or else the environment, or else at a terminal.
+    /// Returns a report that explains as the arguments (`said`) say, or else the environment, or else only at a terminal.
     pub fn new(rt: &'a HostRuntime, said: Option<When>) -> Report<'a> {
         Report {
             rt,
@@ -77,17 +77,17 @@ impl<'a> Report<'a> {
         }
     }
 
-    /// The allocator.
+    /// Returns the allocator.
     pub fn alloc(&self) -> Global {
         self.rt.alloc()
     }
 
-    /// Returns a reader or a writer whose errors are kept.
+    /// Returns this reader or writer with its errors kept in `reason`, where the report of a failure finds them.
     pub fn kept<T>(&self, inner: T) -> Reasoned<'_, T> {
         Reasoned::new(inner, &self.reason)
     }
 
-    /// Tells that VUTHGAL_EXPLAIN has a value that says nothing, if it has.
+    /// Writes that VUTHGAL_EXPLAIN has none of its three values, and so no effect. Writes nothing if it isn't set.
     fn push_wrong_value<E: Sink>(&self, errors: &mut E) -> Result<(), Failed> {
         let mut room = [0u8; ROOM];
         let value = match self.rt.var(VARIABLE, &mut room) {
@@ -102,7 +102,8 @@ impl<'a> Report<'a> {
         push_pieces(errors, &[value, b" counts for nothing\n"])
     }
 
-    /// Returns whether a person is told more. Unless the arguments decide, a wrong value of VUTHGAL_EXPLAIN is told first.
+    /// Returns whether a person is shown more than the fixed line. If the arguments don't decide, it first warns of a wrong
+    /// value of VUTHGAL_EXPLAIN.
     pub fn explains(&self) -> bool {
         if !self.is_said {
             let _ = self.push_wrong_value(&mut WritePort::new(printable::errors(self.rt)));
@@ -110,7 +111,7 @@ impl<'a> Report<'a> {
         self.is_explained
     }
 
-    /// Writes the fixed line of a failure alone. Returns its exit status.
+    /// Writes the fixed line of a failure alone, and returns its exit status. A failed write isn't reported.
     pub fn line(&self, why: Unplanned) -> Reported
         ensures { result.status ≡ unplanned_status why }
     {
@@ -120,8 +121,7 @@ impl<'a> Report<'a> {
         }
     }
 
-    /// Reports why a command gave up, in a file and at a place in it if that is known, and what helps, or else what the entry of
-    /// the line says.
+    /// Reports why a command gave up: the file and the place in it, if known, and `hint`, or else the advice of its entry.
     pub fn fail(&self, why: Unplanned, file: &str, place: Option<Place<'_>>, hint: Hint) -> Reported
         ensures { result.status ≡ unplanned_status why }
     {
@@ -151,21 +151,21 @@ impl<'a> Report<'a> {
         self.fail(Unplanned::Fault(fault), "", None, Ok(None))
     }
 
-    /// Shows a person a place, what is to be said of it, and what helps, where nothing failed.
+    /// Shows a person a place, the sentence `says` about it, and the advice `helps`, where nothing failed.
     pub fn note(&self, file: &str, place: Option<Place<'_>>, says: &str, helps: &str) {
         if self.explains() {
             self.push_lines(file, place, says, Ok(None), helps);
         }
     }
 
-    /// Shows a person a line of what helps or may have been meant, where nothing failed, or else this text, unless it is empty.
+    /// Shows a person the line `hint` where nothing failed, or else `helps`, unless it is empty. A failed write isn't reported.
     pub fn hint(&self, hint: Hint, helps: &str) {
         if self.is_explained {
             let _ = push_hint(&mut WritePort::new(printable::errors(self.rt)), hint, helps);
         }
     }
 
-    /// Shows a person in what the states differ in which several runs of a program with these threads ended.
+    /// Shows a person how the final states of several runs differ; `names` are the threads'. A failed write isn't reported.
     pub fn differences(&self, names: &[&[u8]], outcomes: &Outcomes) {
         if self.is_explained {
             let mut errors = WritePort::new(printable::errors(self.rt));
@@ -178,7 +178,7 @@ impl<'a> Report<'a> {
         self.hint(Ok(None), helps);
     }
 
-    /// Writes at most four lines: a sentence with its file and place, the line of the file, a mark in it, and what helps.
+    /// Writes at most four lines: a sentence with a place, the line there, a mark, and advice. A failed write isn't reported.
     fn push_lines(
         &self,
         file: &str,
@@ -193,7 +193,8 @@ impl<'a> Report<'a> {
     }
 }
 
-/// The entry of `explain` for the fixed line of a failure. If memory has run out, none is needed for it.
+/// Returns the entry of `explain` for the fixed line of a failure; None if it has none. If memory has run out, no line is made:
+/// its entry is found by a word.
 fn entry_of(alloc: Global, why: Unplanned) -> Option<Entry> {
     let question = if why.status() == 4 && !matches!(why, Unplanned::Fault(Fault::Spawn)) {
         question_of(&tables(), &["memory"])

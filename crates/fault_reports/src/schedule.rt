@@ -11,7 +11,7 @@ use suggestions::hint::help_if_any;
 use suggestions::schedule_fault::{Origin, helps_in_schedule};
 use workbench::fault::Fault;
 
-/// Reports why a schedule is refused.
+/// Reports why a schedule is refused: shows its wrong byte, and advice. `origin` says where the schedule is from.
 pub fn fail<S>(
     report: &Report<'_>,
     name: &str,
@@ -36,7 +36,7 @@ pub fn fail<S>(
     )
 }
 
-/// How many choices a token stands for: its count, or 1.
+/// Returns how many choices a token stands for: 3 for `t0*3`, and 1 for `t0`.
 fn times_of(token: &[u8]) -> u64 {
     let digits = token
         .get(length_before(b'*', token).saturating_add(1)..)
@@ -47,7 +47,7 @@ fn times_of(token: &[u8]) -> u64 {
         .unwrap_or(1)
 }
 
-/// Where the token is that has the choice of this number, from 1. None if a schedule has fewer choices.
+/// Returns where the token is that has the choice of this number, from 1. None if a schedule has fewer choices.
 fn token_of_choice(schedule: &[u8], number: u64) -> Option<WordPlace> {
     let mut at: usize = 0;
     let mut played: u64 = 0;
@@ -66,7 +66,7 @@ fn token_of_choice(schedule: &[u8], number: u64) -> Option<WordPlace> {
     None
 }
 
-/// The place of a choice in a schedule, by the choice's number, from 1, if the whole schedule is still known.
+/// Returns where the choice of this number, from 1, is in a schedule. None if a part of the schedule isn't kept any more.
 fn place_of_choice<S>(watched: &Watched<S>, number: u64) -> Option<Place<'_>> {
     let token = token_of_choice(watched.whole()?, number)?;
     let (line, at) = watched.line_of(token.at as u64)?;

@@ -8,7 +8,7 @@ use suggestions::file_kind::{is_schedule, is_whole_program};
 use trace_compare::naming::{Named, choices_in};
 use workbench::slice_source::SliceSource;
 
-/// What helps at a line of a trace that isn't the run's: it is cut, has another end, or `--show` says more.
+/// Returns advice for a line of a trace that isn't the run's: it is cut, has another end, or `--show` says more.
 fn helps_at<S>(watched: &Watched<S>, number: u64, is_shown: bool) -> &'static str {
     let line = watched
         .line(number)
@@ -42,7 +42,7 @@ pub fn note_difference<S>(
     );
 }
 
-/// What helps if a file is no trace.
+/// Returns advice if a file is no trace; `has_line` is false if it ends before its wrong line.
 fn helps_at_file<S>(report: &Report<'_>, watched: &Watched<S>, has_line: bool) -> &'static str {
     let bytes = watched.whole().unwrap_or(&[]);
     if !has_line {

@@ -46,12 +46,12 @@ const HELP: &[u8] = b"  s tN      one choice: thread N's turn; `s xN`: its timed
   Enter     repeat the last command
 ";
 
-/// Ignores whether something besides the replies could be shown: the session goes on.
+/// Ignores whether something besides the replies could be shown: if it couldn't, the session goes on without it.
 fn note(told: Result<(), Failed>) {
     let _ = told;
 }
 
-/// Whether the debugger answers a command with `?`: it isn't one, or names a row that there isn't.
+/// Returns whether the debugger answers a command with `?`: it isn't one, or names a row that doesn't exist.
 fn is_unknown(command: &Command, debugger: &Debugger) -> bool {
     match command {
         Command::Break(row) | Command::Clear(row) => {
@@ -101,7 +101,7 @@ struct Person<'a, S, K, E> {
 }
 
 impl<'a, S: Source + Drop, K: Sink + Drop, E: Sink + Drop> Person<'a, S, K, E> {
-    /// Shows the lines of the first `more` choices of these runs, which were played at once, and keeps them for `w`.
+    /// Keeps the first `more` choices of these runs, which one command played, for `w`. Shows their lines, too.
     fn look_at_runs(&mut self, runs: &[Run], more: u64) -> Result<(), AllocError> {
         if let Some(mut before) = self.before.take() {
             note(push_replayed(&mut self.notes, &mut before, runs, more));
@@ -109,7 +109,7 @@ impl<'a, S: Source + Drop, K: Sink + Drop, E: Sink + Drop> Person<'a, S, K, E> {
         self.played.push_first(runs, more)
     }
 
-    /// Sees what a command came to: keeps the choices that it played or took back, and shows what its reply doesn't.
+    /// Updates the choices kept for `w` after a command that played or took back some, and shows what its reply doesn't.
     fn look_at(&mut self, command: &Command, machine: &Machine) -> Result<(), AllocError> {
         let more = machine.choices().saturating_sub(self.choices);
         let threads = machine.thread_count();
@@ -127,7 +127,8 @@ impl<'a, S: Source + Drop, K: Sink + Drop, E: Sink + Drop> Person<'a, S, K, E> {
         Ok(())
     }
 
-    /// Sees what the last command came to. If the debugger doesn't know it, shows what it may have been meant as.
+    /// Looks at what the last command did, before the next line. If the debugger doesn't know it, shows what may have been
+    /// meant.
     fn look(&mut self, debugger: &Debugger) -> Result<(), AllocError> {
         let command = replace(&mut self.command, Command::Print);
         if is_unknown(&command, debugger) {
@@ -144,7 +145,7 @@ impl<'a, S: Source + Drop, K: Sink + Drop, E: Sink + Drop> Person<'a, S, K, E> {
         self.look_at(&command, debugger.machine())
     }
 
-    /// The names of the program's threads, in order of number.
+    /// Returns the names of the program's threads, in order of number, each empty if the thread has none.
     #[tactic(auto, using(commands::proofs::PlanParts::few_names))]
     fn names(&self, debugger: &Debugger) -> Result<Vec<&'a [u8]>, AllocError>
         ensures { IfOk result (λ names. length names.items ≤ 64) }
@@ -162,7 +163,7 @@ impl<'a, S: Source + Drop, K: Sink + Drop, E: Sink + Drop> Person<'a, S, K, E> {
         Ok(())
     }
 
-    /// Returns the words of what was typed, if it is a plan.
+    /// Returns the words of what was typed if it is a plan, or else `None`.
     fn words(&self, debugger: &Debugger) -> Result<Option<Words>, AllocError> {
         let names = self.names(debugger)?;
         match read_plan(self.alloc, self.said.as_slice(), names.as_slice()) {
@@ -172,7 +173,7 @@ impl<'a, S: Source + Drop, K: Sink + Drop, E: Sink + Drop> Person<'a, S, K, E> {
         }
     }
 
-    /// Takes the line `g TOKENS` for the choices that a plan's words make from the session's machine on.
+    /// Puts the line `g TOKENS` in place of a plan that was typed: the debugger plays the choices that it makes from here.
     fn go(&mut self, debugger: &Debugger, words: &Words) -> Result<(), AllocError> {
         let machine = debugger.machine().copy(self.alloc)?;
         let planned = plan_runs_at(self.alloc, machine, &words.all())?;
@@ -184,7 +185,7 @@ impl<'a, S: Source + Drop, K: Sink + Drop, E: Sink + Drop> Person<'a, S, K, E> {
         Ok(())
     }
 
-    /// Takes the line: a command, or else words of a plan. If it is several choices, it keeps the machine before them.
+    /// Finds out what the line asks for: a command, or else words of a plan. If that is `g`, it keeps a copy of the machine.
     fn take(&mut self, debugger: &Debugger) -> Result<(), AllocError> {
         self.command = command_of(self.alloc, self.line.as_slice())?;
         if matches!(&self.command, Command::Unknown) && !self.said.trim_ascii().is_empty() {
@@ -214,7 +215,7 @@ impl<'a, S: Source + Drop, K: Sink + Drop, E: Sink + Drop> Person<'a, S, K, E> {
         Ok(is_ended)
     }
 
-    /// Answers `help` and `w`, or takes any other line. Returns whether the debugger is to read it.
+    /// Answers `help` and `w`. Returns true for any other line, which the debugger is to read.
     fn is_for_debugger(&mut self, debugger: &Debugger) -> Result<bool, AllocError> {
         match self.line.as_slice().trim_ascii() {
             b"help" | b"?" => note(self.notes.push(HELP)),
@@ -227,7 +228,7 @@ impl<'a, S: Source + Drop, K: Sink + Drop, E: Sink + Drop> Person<'a, S, K, E> {
         Ok(false)
     }
 
-    /// Reads lines up to one for the debugger, and answers the others. Returns false if the input ends without an LF.
+    /// Reads lines, and answers them, up to one for the debugger. Returns whether it has an LF: if not, the input ends.
     fn next_line(&mut self, debugger: &Debugger) -> Result<bool, Fault>
         ensures fault { IfErr result (λ fault. (fault ≡ Fault.Memory) ⊎ (fault ≡ Fault.Read)) }
     {
@@ -260,7 +261,7 @@ pub struct GuidedCommands<'a, S, K, E> {
 }
 
 impl<'a, S: Source + Drop, K: Sink + Drop, E: Sink + Drop> GuidedCommands<'a, S, K, E> {
-    /// Makes a person from a source of lines, for a program with these names, after runs of choices, if there are some.
+    /// Makes a source of commands from a person's lines, for a program with these names, after `runs` of choices, if given.
     /// `output` gets schedules, and `notes` what is shown besides the replies.
     pub fn new(
         alloc: Global,
@@ -300,7 +301,8 @@ impl<'a, S: Source + Drop, K: Sink + Drop, E: Sink + Drop> Companion
 
     ghost has_failed = { λ g. g.failed };
 
-    /// Gives the debugger a person's next line, with numbers for names. Its bytes and its LF are taken off `reads`.
+    /// Gives the debugger a person's next line, with numbers for names. Returns whether it has an LF. Subtracts its bytes from
+    /// `reads`, and fails with `Read` if they are more.
     fn next_line(
         &mut self,
         debugger: &Debugger,

@@ -14,7 +14,7 @@ use thread_machine::{Machine, Status};
 /// How many threads are named at most.
 const MOST_NAMED: usize = 8;
 
-/// Whether a thread waits at a phaser or a barrier.
+/// Returns whether a thread waits at a phaser or a barrier.
 fn is_waiting(machine: &Machine, thread: u8) -> bool
     requires { thread < length machine.now.scene.threads }
 {
@@ -24,7 +24,7 @@ fn is_waiting(machine: &Machine, thread: u8) -> bool
     )
 }
 
-/// What the next choice of a thread that can go on does, if that isn't its row.
+/// Returns what a thread that can go on does next, if it doesn't play its row, or else nothing.
 fn does(machine: &Machine, thread: u8) -> &'static [u8]
     requires { thread < length machine.now.scene.threads }
 {
@@ -39,7 +39,7 @@ fn does(machine: &Machine, thread: u8) -> &'static [u8]
     }
 }
 
-/// Adds the line of a thread: its choice, its name, the row at which it stands, and what it does, or that it waits.
+/// Appends the line of a thread: its choice, its name, its row, and what it does next, or that it waits if it can't go on.
 fn push_thread(
     text: &mut Vec<u8>,
     symbols: &Symbols<'_>,
@@ -65,7 +65,7 @@ fn push_thread(
     text.extend_from_slice(b"\n")
 }
 
-/// Appends the first eight threads that can go on, or that wait and can't, and how many more. Returns how many there are.
+/// Appends the first eight threads that can go on (`can_go`), or that wait, and how many more. Returns how many there are.
 fn push_threads(
     text: &mut Vec<u8>,
     symbols: &Symbols<'_>,
@@ -96,7 +96,7 @@ fn push_threads(
     Ok(count)
 }
 
-/// The lines of the threads that can go on, or why there is none, and of those that wait.
+/// Returns the lines of the threads that can go on, or why there is none, and of those that wait.
 fn may_go(alloc: Global, symbols: &Symbols<'_>, machine: &Machine) -> Result<Vec<u8>, AllocError> {
     let mut text = Vec::new(alloc);
     if push_threads(&mut text, symbols, machine, true)? == 0 {

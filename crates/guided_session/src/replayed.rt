@@ -8,7 +8,7 @@ use trace_text::{LineEnd, line_of_choice};
 /// How many choices have their lines shown at most. Of more none is shown.
 const MOST_SHOWN: u64 = 20;
 
-/// Plays a choice, and shows its line. If it is out of memory, nothing is shown. Returns whether the choice was accepted.
+/// Plays a choice, and shows its line. Returns false, to show no more, if it was refused, or without memory.
 fn push_choice<E: Sink>(
     notes: &mut E,
     machine: &mut Machine,
@@ -25,7 +25,7 @@ fn push_choice<E: Sink>(
     }
 }
 
-/// Plays the first choices of these runs on a machine, so many, and shows the line of each.
+/// Plays the first `count` choices of these runs on a machine, and shows the line of each. It shows none of more than 20.
 pub fn push_replayed<E: Sink>(
     notes: &mut E,
     machine: &mut Machine,

@@ -6,7 +6,7 @@ use itoa::Buffer;
 use line_reader::words::{is_blank, length_before};
 use std::alloc::{AllocError, Global};
 
-/// The number of the thing of this kind and name: for a label that of its row.
+/// Returns the number of what has this kind and name, or `None`. For a label (`Target`) this is its row's number.
 fn number_called(symbols: &Symbols<'_>, kind: OperandKind, name: &[u8]) -> Option<u16> {
     for index in 0..symbols.len() {
         let symbol = symbols.get(index)?;
@@ -17,7 +17,7 @@ fn number_called(symbols: &Symbols<'_>, kind: OperandKind, name: &[u8]) -> Optio
     None
 }
 
-/// Returns the letter and the number of the choice of a declared name: of `ann`, or of `xann`, the expiry of her wait.
+/// Returns the choice that a name stands for: `t` and the number for `ann`, or `x` and it for `xann`. `None`: it is no name.
 fn choice_called(symbols: &Symbols<'_>, word: &[u8]) -> Option<(u8, u16)> {
     if let Some(thread) = number_called(symbols, OperandKind::Thread, word) {
         return Some((b't', thread));
@@ -47,7 +47,7 @@ fn push_row(line: &mut Vec<u8>, symbols: &Symbols<'_>, row: &[u8]) -> Result<(),
     }
 }
 
-/// Returns the first word of a line, and what follows it.
+/// Returns the first word of a line, and what follows it, without the blanks around them.
 pub fn first_and_rest(said: &[u8]) -> (&[u8], &[u8]) {
     let line = said.trim_ascii();
     match line.iter().position(|byte| is_blank(*byte)) {
@@ -59,8 +59,8 @@ pub fn first_and_rest(said: &[u8]) -> (&[u8], &[u8]) {
     }
 }
 
-/// Returns the line that the debugger reads, without an end: `s t0` for `s ann` and for only `ann`. What names nobody stays as
-/// it is. A word that is a whole command is one even if a thread has that name, so that there is always a way out.
+/// Returns the line that the debugger reads, without an LF: `s t0` for `s ann` and for `ann` alone. Other words stay as they
+/// are. A command such as `q` stays one even if a thread has that name, so that a person can always end the session.
 pub fn in_numbers(
     alloc: Global,
     symbols: &Symbols<'_>,

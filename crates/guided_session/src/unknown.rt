@@ -33,7 +33,7 @@ quit exit: `q` ends the session
 h: `help` lists the commands
 ";
 
-/// What helps if `s` or `g` isn't followed by choices alone.
+/// Returns what helps if `s` or `g` isn't followed by choices alone, or `None` if nothing is known.
 fn helps_at_choices(word: &[u8], rest: &[u8]) -> Option<&'static str> {
     let is_step = word == b"s".as_slice();
     if is_step && rest.is_empty() {
@@ -49,7 +49,7 @@ fn helps_at_choices(word: &[u8], rest: &[u8]) -> Option<&'static str> {
     }
 }
 
-/// What helps at a line by its first word: a command of other debuggers, or one of this one with something that it doesn't take.
+/// Returns what helps with a line by its first word: a command of another debugger, or one of this one that is used wrongly.
 fn helps_at_command(said: &[u8]) -> Option<&'static str> {
     let (word, rest) = first_and_rest(said);
     if said.contains(&27) {
@@ -79,7 +79,7 @@ fn helps_at_command(said: &[u8]) -> Option<&'static str> {
     }
 }
 
-/// Returns the first wrong word of a plan, and what is wrong with it.
+/// Returns the first wrong word of a plan, and what is wrong with it, or `None` if each word is right, or without memory.
 fn wrong_word(alloc: Global, names: &[&[u8]], plan: &[u8]) -> Option<(WordPlace, PlanFaultKind)>
     requires { length names.now ≤ 64 }
 {
@@ -92,17 +92,17 @@ fn wrong_word(alloc: Global, names: &[&[u8]], plan: &[u8]) -> Option<(WordPlace,
     None
 }
 
-/// Writes a line that begins with this label.
+/// Writes a line: `label`, and directly after it `text`.
 fn push_line<E: Sink>(notes: &mut E, label: &[u8], text: &[u8]) -> Result<(), Failed> {
     push_pieces(notes, &[label, text, b"\n"])
 }
 
-/// Writes a line of help, behind two blanks.
+/// Writes a line of help after two blanks.
 fn push_help<E: Sink>(notes: &mut E, helps: &str) -> Result<(), Failed> {
     push_line(notes, b"  ", helps.as_bytes())
 }
 
-/// Writes the number of the last thread, for a choice of one that there isn't.
+/// Writes the number of the last of `count` threads, after a choice of a thread that doesn't exist.
 pub fn push_threads<E: Sink>(notes: &mut E, count: usize) -> Result<(), Failed> {
     match count.checked_sub(1) {
         Some(last) => push_line(
@@ -114,7 +114,7 @@ pub fn push_threads<E: Sink>(notes: &mut E, count: usize) -> Result<(), Failed> 
     }
 }
 
-/// Writes what helps at a line of a plan, in which a command may come first.
+/// Writes what helps with the first wrong word of a plan, or of what follows `s` or `g`.
 fn push_at_plan<E: Sink>(
     alloc: Global,
     notes: &mut E,
@@ -149,7 +149,7 @@ fn push_at_plan<E: Sink>(
     }
 }
 
-/// The label that is nearest to a word, if one is near.
+/// Returns the label that is most like a word, or `None` if none is like it.
 fn nearest_label<'a>(
     alloc: Global,
     symbols: &Symbols<'a>,
@@ -186,7 +186,7 @@ fn push_rows<E: Sink>(
     }
 }
 
-/// Writes what a line may have been meant as that was answered with `?`.
+/// Writes what a person may have meant with a line that the debugger answered with `?`.
 pub fn push_unknown<E: Sink>(
     alloc: Global,
     notes: &mut E,

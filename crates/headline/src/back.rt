@@ -10,7 +10,7 @@ use debugger::Debugger;
 use std::alloc::Global;
 use thread_machine::{Choice, Event, Machine, StepFault, Undo};
 
-/// Plays a choice on a machine, and returns its event and what takes it back. If the choice is refused, nothing has changed.
+/// Plays a choice on a machine. Returns its event, and what undoes it (`take_back`). If the choice is refused, nothing changes.
 pub fn step(machine: &mut Machine, choice: Choice) -> Result<(Event, Undo), StepFault>
     ensures returns { IfOk result (λ both. StepsAndReturns machine.old choice both.0 both.1 machine.new) }
     ensures can { IfOk result (λ both. CanUndo both.1 machine.new) }
@@ -22,7 +22,7 @@ pub fn step(machine: &mut Machine, choice: Choice) -> Result<(Event, Undo), Step
     machine.step_noting(choice)
 }
 
-/// Plays a choice on a machine, and takes it back. If the choice is refused, nothing has changed.
+/// Plays a choice on a machine, and takes it back, so that the machine is as before. Returns the event, or why it was refused.
 pub fn step_and_back(machine: &mut Machine, choice: Choice) -> Result<Event, StepFault>
     ensures restores { IfOk result (λ event. BackRestores machine.old (choice ∷ []) (event ∷ []) machine.new) }
     ensures refused { OnErr result (machine.new ≡ machine.old) }
@@ -43,7 +43,7 @@ pub fn take_back(machine: &mut Machine, undo: Undo)
     machine.back(undo);
 }
 
-/// Plays these choices in order and returns their events. If one is refused, those before it stay played, and it says why.
+/// Plays these choices in order and returns their events. If one is refused, those before it stay played (`Err` says why).
 fn steps(
     alloc: Global,
     debugger: &mut Debugger,
@@ -69,7 +69,7 @@ fn steps(
     Ok(events)
 }
 
-/// Takes back the last `count` choices, or as many as the session still keeps.
+/// Takes back the last `count` choices, or as many as the session still keeps: then `back` fails and does nothing (`let _`).
 fn backs(debugger: &mut Debugger, count: usize)
     ensures { debugger.new ≡ backs count debugger.old }
 {

@@ -10,7 +10,7 @@ use std::alloc::Global;
 use thread_machine::{Choice, Machine, StepFault};
 use trace_text::start::{StartFault, first_machine};
 
-/// Plays one choice. Returns whether it was accepted. A refusal is `Ok(false)`, and only out of memory is `Err`.
+/// Plays one choice. Returns whether it was accepted. A refused choice is `Ok(false)`: only a lack of memory is `Err`.
 #[tactic(auto, using(crate::proofs::Scenes::led_on, crate::proofs::Scenes::led_nowhere))]
 fn play_one(machine: &mut Machine, choice: Choice) -> Result<bool, StartFault>
     ensures led { IfOk result (λ accepted. Leaves (world_of machine.old) choice accepted (world_of machine.new)) }
@@ -23,7 +23,7 @@ fn play_one(machine: &mut Machine, choice: Choice) -> Result<bool, StartFault>
     }
 }
 
-/// Plays these choices in order, up to the first that is refused. A refusal is `Ok`, and only out of memory is `Err`.
+/// Plays these choices in order, up to the first that is refused, which is `Ok`, too: only a lack of memory is `Err`.
 fn play_all(machine: &mut Machine, choices: &[Choice]) -> Result<(), StartFault>
     ensures left { OnOk result (world_of machine.new ≡ (execution (world_of machine.old) choices.now).world) }
     ensures memory { (fault : LoadFault) → result ≢ Err (StartFault.Load fault) }

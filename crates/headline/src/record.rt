@@ -15,7 +15,7 @@ use std::thread::Threads;
 use thread_machine::{Event, Machine};
 use thread_runner::{Gate, Journaled, LiveFault, LiveRun, TakeFault};
 
-/// Loads the program of an image. Its machines begin in the image's first state, but its phasers may be stored otherwise.
+/// Loads the program of an image. Its machines begin in the image's first state, however its phasers are stored at first.
 #[tactic(auto, using(thread_machine::proofs::Firsts::is_first))]
 pub fn load(alloc: Global, image: Image) -> Result<Loaded, LoadFault>
     ensures fault { IfErr result (λ fault. fault ≢ LoadFault.Memory → first_fault image ≡ Some fault) }
@@ -33,7 +33,7 @@ pub fn begin(alloc: Global, program: Loaded, limit: u32) -> Result<Journaled, Al
     Journaled::new(alloc, program, limit)
 }
 
-/// Returns the machine of a record. The recorded choices have led to it.
+/// Returns the machine of a record, to which the recorded choices led: `each_record_is_a_replay` only states this.
 pub fn record(journaled: &Journaled) -> &Machine
     ensures replay { IsReplay journaled.now (recorded_world journaled.now) }
     ensures machine { world_of result.now ≡ recorded_world journaled.now }
@@ -51,7 +51,7 @@ pub fn schedule(journaled: &Journaled) -> &[u8]
     journaled.schedule()
 }
 
-/// Takes a thread's turn under the lock of a live run, and records it. Any turn may be out of memory, as the record grows.
+/// Takes and records a thread's turn in a live run. Fails, and changes nothing, if it isn't ready, or without memory or steps.
 pub fn take_step(journaled: &mut Journaled, thread: u8) -> Result<Event, TakeFault>
     requires { thread < length journaled.old.first.scene.threads }
     ensures played { IfOk result (λ event. record { world = recorded_world journaled.new; event = event }
@@ -65,7 +65,7 @@ pub fn take_step(journaled: &mut Journaled, thread: u8) -> Result<Event, TakeFau
     journaled.take_step(thread)
 }
 
-/// Lets a thread's wait expire under the lock of a live run, and records it. It may be out of memory, as the record grows.
+/// Lets a thread's timed wait expire in a live run, and records it. Fails, and changes nothing, if it can't, or without memory.
 pub fn take_expiry(journaled: &mut Journaled, thread: u8) -> Result<Event, TakeFault>
     requires { thread < length journaled.old.first.scene.threads }
     ensures played { IfOk result (λ event. record { world = recorded_world journaled.new; event = event }

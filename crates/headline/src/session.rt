@@ -34,7 +34,7 @@ pub fn present(debugger: &Debugger) -> &Machine
     debugger.machine()
 }
 
-/// Plays a choice in a session, and keeps what takes it back. If the choice is refused, nothing has changed.
+/// Plays a choice in a session, and keeps what takes it back. Returns its event. If the choice is refused, nothing changes.
 pub fn step_on(debugger: &mut Debugger, choice: Choice) -> Result<Event, StepFault>
     ensures row { IfOk result (λ event. StepGivesTheRow debugger.old.machine choice event debugger.new.machine) }
     ensures kept { OnOk result (debugger.new ≡ went_on debugger.old debugger.new.machine) }

@@ -99,7 +99,8 @@ pub fn debug_behind<C: Companion, K: Sink>(
     workbench::debug::debug_behind(alloc, image, runs, commands, output)
 }
 
-/// Plays a trace's choices as `g` does, then carries out a session's commands. If it is no trace, it says so and reads none.
+/// Plays a trace's choices as the command `g` does, then carries out a session's commands. If it isn't a trace, it writes at
+/// which line, carries out none, and returns `Unlike`.
 pub fn debug_at<T: Source, C: Companion, K: Sink>(
     alloc: Global,
     image: Image,
@@ -178,26 +179,25 @@ pub fn list<K: Sink>(alloc: Global, image: &Image, output: &mut K) -> Result<(),
     workbench::list::list(alloc, image, output)
 }
 
-/// A whole trace has the verdict `Same` exactly if it is the trace of the choices that its lines name, from the first state of
-/// a program of the image.
+/// A law: a trace has the verdict `Same` exactly if it is that of the choices that its lines name, from the first state.
 pub fn the_same_is_that_trace_alone()
     ensures { (image : Image) (first : World) (trace : List ℕ) → IsFirstOf image 1000000000 first
         → (verdict_of first trace ≡ verdict.Same) ↔ (trace ≡ trace_of (start image) (choices_of_trace trace)) }
 {}
 
-/// If the loader refuses the program of a text, no run of this text is ever shown. An example is a thread without a row.
+/// A law: if the loader refuses a text's program, no run of it is ever shown. An example is a thread without a row.
 pub fn what_is_refused_is_never_shown()
     ensures { (text : List ℕ) (image : Image) (why : LoadFault) (before after : Option (List ℕ))
         → StandsFor (program_part text) image → first_fault image ≡ Some why
         → HasShownText text before after → ⊥ }
 {}
 
-/// At each line of a session, the machine is what the rows give for the choices played and not taken back. None is refused.
+/// A law: at each line of a session, the machine is in the state after the choices that were played and not taken back.
 pub fn sessions_give_the_rows()
     ensures { SessionsGiveTheRows }
 {}
 
-/// A live run that may take a step makes at least one choice: no accepted program is over before its first choice.
+/// A law: a live run that may take a step makes a choice: no accepted program is over before its first choice.
 pub fn a_live_run_chooses()
     ensures { (limit : ℕ) (image : Image) (choices : List Choice)
         → 0 < limit → Accepted image → IsRecorded image limit choices → choices ≢ [] }

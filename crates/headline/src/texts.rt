@@ -13,7 +13,7 @@ use row_code::Image;
 use std::alloc::{AllocError, Global};
 use thread_machine::{Choice, Event, Machine};
 
-/// The image of a text or a file is within the limits of images. So it is accepted exactly if the loader finds no fault in it.
+/// A law: the image of a text or a file is within the limits of images. It is accepted if the loader finds no fault.
 pub fn what_is_read_is_within_limits()
     ensures text { (text : List ℕ) (image : Image) → StandsFor text image → IsImage image }
     ensures file { (file : List ℕ) (image : Image) → IsProgramFile file image → IsImage image }
@@ -34,7 +34,7 @@ pub fn disassemble(alloc: Global, image: &Image) -> Result<Vec<u8>, AllocError>
     assembler::disassemble(alloc, image)
 }
 
-/// The canonical text of an image within the limits represents this image. No text represents two images.
+/// A law, by two that it calls: the canonical text of an image within the limits is that image's. No text has two.
 pub fn a_canonical_text_is_read_back()
     ensures represents { (image : Image) → IsImage image → StandsFor (canonical image) image }
     ensures one { (text : List ℕ) (a b : Image) → StandsFor text a → StandsFor text b → a ≡ b }

@@ -15,7 +15,8 @@ use std::alloc::{AllocError, Global};
 use thread_machine::{Choice, Event, Machine, StepFault};
 use tier_tree::{Arrived, DeclareFault, Forest, PhaserId, Registered};
 
-/// Plays a step of a machine whose trees' words may lag behind their roots. If it is refused, the machine is as before.
+/// Plays a choice on a machine. A phaser's stored word may still have an old phase number: the result is as if it hadn't. If
+/// the choice is refused, the machine is as before.
 pub fn step(machine: &mut Machine, choice: Choice) -> Result<Event, StepFault>
     ensures row { IfOk result (λ event. StepGivesTheRow machine.old choice event machine.new) }
     ensures accepted { OnOk result (refusal_of (world_of machine.old) choice ≡ None) }
@@ -27,14 +28,14 @@ pub fn step(machine: &mut Machine, choice: Choice) -> Result<Event, StepFault>
     machine.step(choice)
 }
 
-/// The word of a phaser is at most so many phases behind its root's as phases of its tree have ended.
+/// A law: a phaser's word is at most so many phases behind its root's as phases have ended (`is_forest` states it).
 pub fn no_word_lags_far(machine: &Machine)
     ensures { IsNear machine.now.scene.phasers }
 {
     machine.forest().is_forest();
 }
 
-/// Makes a forest without phasers. It agrees with any counts of who is registered and who is to arrive: it has no phaser yet.
+/// Makes a forest without phasers. Any counts of registered parties and arrivals agree with it, as it has no phaser yet.
 pub fn plant(alloc: Global) -> Result<Forest, AllocError>
     ensures empty { IfOk result (λ forest. phasers_of forest ≡ []) }
     ensures counts { IfOk result (λ forest. (counts : Origin) → AreTallied (phasers_of forest) counts) }
@@ -42,7 +43,8 @@ pub fn plant(alloc: Global) -> Result<Forest, AllocError>
     Forest::new(alloc)
 }
 
-/// Declares a phaser: a root, or a child of another phaser before anything has happened in its tree.
+/// Declares a phaser: a root, or a child of `parent` before anything has happened in its tree. Returns its number, the next
+/// free one. If it is refused, nothing changes.
 pub fn declare(
     forest: &mut Forest,
     parent: Option<PhaserId>,
@@ -64,7 +66,8 @@ pub fn declare(
     forest.declare(parent, parties, policy, phase)
 }
 
-/// Registers `parties` parties with a phaser. Returns the phase, or why they aren't: terminated, too many, or held for now.
+/// Registers `parties` parties with a phaser. Returns the phase, or that it is terminated, is ending its phase, or has too
+/// many.
 pub fn register(forest: &mut Forest, id: PhaserId, parties: u32) -> Registered
     requires { id.0 < length forest.old }
     ensures answer { result ≡ registration id.0 parties (phasers_of forest.old) }
@@ -85,8 +88,8 @@ pub fn arrive(forest: &mut Forest, id: PhaserId, leave: bool) -> Arrived
     forest.arrive(id, leave)
 }
 
-/// Ends the phase of a tree after its last arrival. If `ends` is true, the tree is terminated. By the counts, each party
-/// that registered has then arrived or left, unless an unregistered party arrived in the tree.
+/// Ends the phase of a tree after its last arrival. If `ends` is true, it terminates the tree. Each party that registered has
+/// then arrived or left, unless an unregistered party arrived in the tree (`safe`).
 pub fn end_phase(forest: &mut Forest, root: PhaserId, ends: bool)
     requires there { root.0 < length forest.old }
     requires root { root_at (phasers_of forest.old) root.0 ≡ root.0 }
@@ -101,7 +104,7 @@ pub fn end_phase(forest: &mut Forest, root: PhaserId, ends: bool)
     forest.finish_turn(root, ends)
 }
 
-/// Terminates the tree of a phaser.
+/// Terminates the tree of a phaser, as `forceTermination` does. It registers no party, and none arrives by it.
 pub fn force(forest: &mut Forest, id: PhaserId)
     requires { id.0 < length forest.old }
     ensures phasers { phasers_of forest.new ≡ after_force id.0 (phasers_of forest.old) }

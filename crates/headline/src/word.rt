@@ -29,7 +29,7 @@ pub fn new(
 }
 
 /// Makes a registration, an arrival, a departure or a termination, and returns the reply. It tries again until no other call
-/// has changed the word meanwhile.
+/// has changed the word meanwhile. The clause `prompt` excludes calls that look or wait.
 pub fn make_call<R: Wait>(rt: &R, phaser: &SharedPhaser, party: &mut Party, call: Call) -> Reply
     requires prompt { (call ≢ Look) × ((phase : ℤ) → call ≢ Await phase) }
     requires phaser { phaser_of party.old ≡ phaser.now }
@@ -45,8 +45,8 @@ pub fn make_call<R: Wait>(rt: &R, phaser: &SharedPhaser, party: &mut Party, call
     }
 }
 
-/// Makes a registration, an arrival, a departure or a termination in at most `tries` tries. If other calls came first in all
-/// of them, no call was made.
+/// Makes a registration, an arrival, a departure or a termination in at most `tries` tries. Fails if other calls came first in
+/// all of them: then no call was made. The clause `prompt` excludes calls that look or wait.
 pub fn make_call_within(
     phaser: &SharedPhaser,
     party: &mut Party,
@@ -69,7 +69,7 @@ pub fn make_call_within(
     }
 }
 
-/// Returns the phaser's packed state: after a legal history that has all calls which this caller made or saw.
+/// Returns the phaser's packed state. It is the state after some legal order of calls, with all that this caller made or saw.
 pub fn look(phaser: &SharedPhaser, party: &mut Party) -> Word
     requires { phaser_of party.old ≡ phaser.now }
     ensures phaser { phaser_of party.new ≡ phaser.now }
@@ -78,7 +78,7 @@ pub fn look(phaser: &SharedPhaser, party: &mut Party) -> Word
     phaser.look(party)
 }
 
-/// Waits until a legal history has the end of this phase. A negative `phase` isn't waited for, and is returned.
+/// Waits until the phaser isn't in this phase, and returns what `getPhase` then does, or `phase` at once if it is negative.
 pub fn await_advance<R: Wait>(rt: &R, phaser: &SharedPhaser, party: &mut Party, phase: i32) -> i32
     requires { phaser_of party.old ≡ phaser.now }
     ensures phaser { phaser_of party.new ≡ phaser.now }
@@ -89,8 +89,8 @@ pub fn await_advance<R: Wait>(rt: &R, phaser: &SharedPhaser, party: &mut Party, 
     phaser.await_advance(rt, party, phase)
 }
 
-/// Arrives, and waits for the end of that phase. It doesn't wait if the phaser is terminated, or if no party was left that
-/// could arrive.
+/// Arrives, waits for the end of that phase, and returns what `getPhase` then returns. It doesn't wait if the phaser is
+/// terminated. It fails if no party was left that could arrive.
 pub fn arrive_and_await_advance<R: Wait>(
     rt: &R,
     phaser: &SharedPhaser,
@@ -115,7 +115,7 @@ pub fn split(phaser: &SharedPhaser, first: &mut Party) -> Party
     phaser.split(first)
 }
 
-/// Joins the caller `other` to the first, which then knows one legal history that has the calls of both.
+/// Joins the caller `other` to the first, which then knows one legal order of calls that has the calls of both.
 pub fn join(phaser: &SharedPhaser, first: &mut Party, other: Party)
     requires first { first.old.known.number ≡ 0 }
     requires phaser { phaser_of first.old ≡ phaser.now }
@@ -126,8 +126,8 @@ pub fn join(phaser: &SharedPhaser, first: &mut Party, other: Party)
     phaser.join(first, other)
 }
 
-/// Closes the phaser and returns its last packed state, after a legal history that has each call of all joined callers once,
-/// in each caller's order, and no other call if none is missing.
+/// Closes the phaser and returns its last packed state. It is the state after some legal order of calls, which has each call of
+/// all joined callers once, in each caller's order, and no other call if no caller is missing.
 pub fn close(phaser: SharedPhaser, first: Party) -> Word
     requires first { first.known.number ≡ 0 }
     requires phaser { phaser_of first ≡ phaser }

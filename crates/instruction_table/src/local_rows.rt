@@ -40,7 +40,7 @@ fn difference(registers: &Regs, left: Reg, right: Reg) -> i32
     registers.get(left).wrapping_sub(registers.get(right))
 }
 
-/// Puts a number into a register, and goes to the next row. Returns the number.
+/// Puts a number into a register, and goes to the next row. Returns the number, never `None`, as the result of a row.
 fn load(registers: &mut Regs, pc: &mut u16, into: Reg, value: i32) -> Option<i32>
     requires { pc.old < 65535 }
     ensures { record { registers = registers.new; pc = pc.new; written = result }

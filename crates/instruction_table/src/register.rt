@@ -32,7 +32,7 @@ impl Reg {
         }
     }
 
-    /// Returns the register with this number, if there is one.
+    /// Returns the register with this number. `None`: the number is above 7.
     pub fn numbered(number: u8) -> Option<Reg>
         ensures known { IsSome result ↔ (number < 8) }
         ensures number { IfSome result (λ reg. number_of reg ≡ number) }

@@ -56,7 +56,7 @@ const TABLE: [Listed; 42] = [
     (41, "cawaitt", &[Register, Barrier, Register]),
 ];
 
-/// Returns an entry of the table as a shape.
+/// Returns an entry of the table as a `Shape`, which has names for its three parts.
 fn shape_listed(listed: Listed) -> Shape
     ensures { entry_of result ≡ entry_listed listed.entry }
 {
@@ -80,7 +80,7 @@ const PLACES: [u8; 128] = [
 ];
 
 /// Returns the place of the entry with this word: `PLACES` at a slot computed from the word's length and its first, second and
-/// last letters. The factors 5 and 13 give each word of the table its own slot. Other bytes get any place, or 255.
+/// last letters. The factors 5 and 13 give each word of the table its own slot. Other bytes get any place, or 255: none.
 #[inline(always)]
 fn place_of(word: &[u8]) -> u8
     ensures { (e : Entry) → entry_named table word.now ≡ Some e → result ≡ e.opcode }
@@ -123,7 +123,7 @@ pub fn opcode_named(word: &[u8]) -> Option<u8>
     opcode_there(&TABLE, place_of(word), word)
 }
 
-/// Returns the kinds of the operands of the entry at this place.
+/// Returns the kinds of the operands of the entry at this place, which exists.
 #[inline(always)]
 fn operands_at(entries: &[Listed], place: u8) -> &'static [OperandKind]
     requires { place < length entries.now }
@@ -141,7 +141,7 @@ pub fn operands_of(opcode: u8) -> &'static [OperandKind]
     operands_at(&TABLE, opcode)
 }
 
-/// Returns the shape of the entry at this place.
+/// Returns how the rows of the entry at this place, which exists, are written.
 fn shape_at(entries: &[Listed], place: u8) -> Shape
     requires { place < length entries.now }
     ensures { entry_of result ≡ slice_index_or (map entry_listed entries.now) place no_entry }

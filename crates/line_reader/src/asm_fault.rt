@@ -88,7 +88,7 @@ impl WordFault {
     }
 }
 
-/// Returns what was read of a word, or the word's fault with its place: `left` counts the words from this one on.
+/// Returns what was read from a word, or its fault with the word's place: `left` is how many words are left, this one counted.
 #[inline(always)]
 pub fn read_at<T>(left: usize, read: Result<T, AsmFaultKind>) -> Result<T, WordFault>
     ensures { result ≡ read_at left read }
@@ -102,6 +102,7 @@ pub fn read_at<T>(left: usize, read: Result<T, AsmFaultKind>) -> Result<T, WordF
 impl From<AllocError> for AsmFaultKind {
     ghost from_gives = { λ _ kind. kind ≡ Memory };
 
+    /// Returns `Memory`. The operator `?` calls it when memory is refused.
     fn from(_e: AllocError) -> AsmFaultKind {
         AsmFaultKind::Memory
     }
@@ -110,6 +111,7 @@ impl From<AllocError> for AsmFaultKind {
 impl<T: Drop> From<AllocFailed<T>> for AsmFaultKind {
     ghost from_gives = { λ _ kind. kind ≡ Memory };
 
+    /// Returns `Memory`. The operator `?` calls it when a list has no memory for a value, which is lost.
     fn from(_e: AllocFailed<T>) -> AsmFaultKind {
         AsmFaultKind::Memory
     }

@@ -38,7 +38,7 @@ fn cell_at<'a>(words: &[&'a [u8]]) -> Result<&'a [u8], WordFault>
     }
 }
 
-/// Reads the directive that `word` begins, with the words after it. A word that is none of the first three is `.cell`.
+/// Reads the directive that `word` begins. The caller has checked `is_directive`, so a word other than these three is `.cell`.
 #[tactic(auto, unfolding(crate::specs::Reading::directive_at))]
 pub fn directive_at<'a>(word: &[u8], words: &[&'a [u8]]) -> Result<Statement<&'a [u8]>, WordFault>
     ensures { seen statement_seen result ≡ directive_at word.now (map name_seen words.now) }

@@ -102,7 +102,7 @@ fn other_at<'a>(
     }
 }
 
-/// Reads an operand of this kind. If it isn't a register, its number or name goes into `held`.
+/// Reads an operand of this kind. If it isn't a register, its number or name goes into `held`: no row has two such operands.
 #[inline(always)]
 #[tactic(auto, unfolding(crate::specs::Reading::operand_at))]
 fn operand_at<'a>(

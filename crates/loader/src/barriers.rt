@@ -29,7 +29,7 @@ pub fn action_rows(alloc: Global, barriers: &[DeclaredBarrier]) -> Result<Vec<u1
         .collect(alloc)
 }
 
-/// Returns the fault of barrier `n` if it has an action whose first row doesn't exist.
+/// Returns the fault of barrier `n` if it has an action whose first row doesn't exist. `None`: it has no such fault.
 fn action_fault(rows: usize, n: u8, action: Option<u16>) -> Option<LoadFault>
     ensures { result ≡ action_fault rows n action }
 {

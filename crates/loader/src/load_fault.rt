@@ -64,6 +64,7 @@ impl LoadFault {
 impl From<AllocError> for LoadFault {
     ghost from_gives = { λ _ e. e ≡ Memory };
 
+    /// Returns `Memory`, so that `?` can pass on a failed allocation.
     fn from(_e: AllocError) -> LoadFault {
         LoadFault::Memory
     }
@@ -72,6 +73,7 @@ impl From<AllocError> for LoadFault {
 impl<T: Drop> From<AllocFailed<T>> for LoadFault {
     ghost from_gives = { λ _ e. e ≡ Memory };
 
+    /// Returns `Memory`, so that `?` can pass on a failed allocation that hands back its value.
     fn from(_e: AllocFailed<T>) -> LoadFault {
         LoadFault::Memory
     }

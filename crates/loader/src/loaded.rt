@@ -115,7 +115,7 @@ impl Loaded {
         })
     }
 
-    /// A law: every loaded program fulfils `IsProgram`. The function itself does nothing.
+    /// A law: every loaded program fulfils `IsProgram`. The read brings the invariant of `Loaded` into the proof.
     pub fn each_program_is_whole(&self)
         ensures { IsProgram self.now }
     {

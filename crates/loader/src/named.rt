@@ -15,7 +15,7 @@ pub enum Named {
     Barrier(u16),
 }
 
-/// Returns what the row names besides registers and numbers.
+/// Returns what the row names besides registers and numbers, or `Nothing`.
 pub fn named_by(row: Row) -> Named
     ensures { result ≡ named_by row }
 {

@@ -26,7 +26,7 @@ fn policy_of(policy: DeclaredPolicy) -> Policy
     }
 }
 
-/// Returns the fault of phaser `n` if it has a routine whose first row doesn't exist.
+/// Returns the fault of phaser `n` if it has a routine whose first row doesn't exist. `None`: it has no such fault.
 fn routine_fault(rows: usize, n: u8, policy: DeclaredPolicy) -> Option<LoadFault>
     ensures { result ≡ routine_fault rows n policy }
 {
@@ -66,7 +66,8 @@ fn parent_of(phaser: DeclaredPhaser) -> Option<PhaserId>
     }
 }
 
-/// Declares a phaser after those before it, or returns why it is refused.
+/// Declares a phaser after those before it, or returns why it is refused. `unwrap` can't fail: `IsPhaser` requires a phase. The
+/// last five clauses are those of `declare_checked`.
 fn declare(forest: &mut Forest, phaser: DeclaredPhaser) -> Result<(), DeclareFault>
     requires fits { IsPhaser phaser }
     requires fresh { AreAllFresh (phasers_of forest.old) }
@@ -88,7 +89,8 @@ fn declare(forest: &mut Forest, phaser: DeclaredPhaser) -> Result<(), DeclareFau
     Ok(())
 }
 
-/// Declares phaser `n` after those before it, if the first row of its routine exists.
+/// Declares phaser `n` after those before it. `Err`: its routine's first row doesn't exist, or why the forest refuses it. The
+/// last five clauses: it is added as one more, nobody arrives, no phase ends, and its parties are counted.
 fn declare_checked(
     forest: &mut Forest,
     rows: usize,

@@ -11,7 +11,7 @@ use row_code::DeclaredThread;
 /// How many cells there are.
 const CELLS: u16 = 32;
 
-/// Checks whether the row of this number, which `place` names, exists. There are `rows` rows.
+/// Returns a fault if the row of this number, which `place` names, isn't one of the `rows` rows. `None`: it is one.
 pub fn target_fault(rows: usize, place: Place, row: u16) -> Option<LoadFault>
     ensures { result ≡ target_fault rows place row }
 {
@@ -22,7 +22,7 @@ pub fn target_fault(rows: usize, place: Place, row: u16) -> Option<LoadFault>
     }
 }
 
-/// Checks whether what row `n` names exists.
+/// Returns the fault of row `n` if what it names doesn't exist. `None`: it exists.
 fn named_fault(counts: Counts, n: u16, named: Named) -> Option<LoadFault>
     ensures { result ≡ named_fault counts n named }
 {
@@ -43,7 +43,7 @@ fn named_fault(counts: Counts, n: u16, named: Named) -> Option<LoadFault>
     }
 }
 
-/// Checks in order whether each thread's first row exists.
+/// Returns the fault of the first thread whose first row doesn't exist. `None`: each of these rows exists.
 pub fn thread_fault(rows: usize, threads: &[DeclaredThread]) -> Option<LoadFault>
     requires { length threads.now ≤ 64 }
     ensures { result ≡ earliest_in (thread_fault rows) 0 threads.now }
@@ -57,7 +57,7 @@ pub fn thread_fault(rows: usize, threads: &[DeclaredThread]) -> Option<LoadFault
     None
 }
 
-/// Checks in order whether what each row names exists.
+/// Returns the fault of the first row that names something that doesn't exist. `None`: there is no such row.
 pub fn row_fault(counts: Counts, rows: &[Row]) -> Option<LoadFault>
     requires { length rows.now < 65536 }
     ensures { result ≡ earliest_in (row_fault counts) 0 rows.now }
@@ -71,7 +71,7 @@ pub fn row_fault(counts: Counts, rows: &[Row]) -> Option<LoadFault>
     None
 }
 
-/// Checks whether a thread could go on after the last row. Without rows there is no fault.
+/// Returns `FallsOff` if a thread could go on after the last row. `None`: it can't, or there are no rows.
 pub fn last_fault(rows: &[Row]) -> Option<LoadFault>
     ensures { result ≡ last_fault rows.now }
 {

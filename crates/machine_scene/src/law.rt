@@ -7,8 +7,8 @@ ghost use Rattle.machine_scene.specs.{Outcomes.is_ready, Outcomes.outcome_of_exp
 
 use loader::Loaded;
 
-/// A thread's turn is ready exactly if `is_listed`, a table by status and row, is true. A thread's wait can expire exactly if
-/// its turn isn't ready, and `can_run_out`, another such table, is true.
+/// A law: a thread can take its turn exactly if `is_listed`, a table by status and row, is true. Its wait can expire
+/// exactly if it can't take its turn, and `can_run_out`, another such table, is true.
 #[tactic(auto, using(crate::proofs::ReadyThreads::ready_as_listed, crate::proofs::ReadyThreads::expiry_as_listed))]
 pub fn who_is_ready()
     ensures turns { (t : ℕ) (program : Program) (scene : Scene) → is_ready t program scene
@@ -18,7 +18,7 @@ pub fn who_is_ready()
         && can_run_out (thread_at scene t).status (row_at program.rows (thread_at scene t).pc) scene) }
 {}
 
-/// The first scene of a loaded program is sound (`IsSound`), for any limit of steps: each turn can rely on it.
+/// A law: the first scene of a loaded program is sound, for any limit of steps, as each turn requires. The calls prove it.
 #[tactic(auto, using(crate::proofs::Start::first_scene_is_sound))]
 pub fn a_first_scene_is_sound(program: &Loaded)
     ensures { (steps : ℕ) → IsSound program.now steps (first_scene program.now) }

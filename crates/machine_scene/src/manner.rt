@@ -12,7 +12,7 @@ pub struct Manner {
     pub waits: bool,
 }
 
-/// Returns how the row arrives. For any other row, at which nobody arrives, it gives R0 and false, which nobody uses.
+/// Returns how a row arrives. At a row that isn't named here nobody arrives, and nobody uses the result.
 #[inline(always)]
 pub fn manner_of(row: Row) -> Manner
     ensures { result ≡ manner_of row }

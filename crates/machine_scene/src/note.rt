@@ -18,7 +18,7 @@ pub enum Touched {
 }
 
 impl Touched {
-    /// Makes it say that nothing else may change. Most notes say so already, and then nothing is written.
+    /// Sets the note to `Nothing`: only the thread itself may change. Most notes already say so, and then nothing is written.
     #[inline(always)]
     pub(crate) fn clear(&mut self)
         ensures { self.new ≡ Nothing }
@@ -52,7 +52,7 @@ impl Model for SceneNote {
 }
 
 impl SceneNote {
-    /// Makes a note that says nothing, for `Stage::note` to overwrite.
+    /// Makes an empty note. `Stage::note` overwrites its fields before anybody reads them.
     pub fn new() -> SceneNote
         ensures top { result.before.top ≡ None }
         ensures touched { result.touched ≡ Nothing }

@@ -17,7 +17,7 @@ pub enum Reach {
     Barrier(u16),
 }
 
-/// Returns the reach of a turn that throws and pops this entry. That of an action breaks its barrier.
+/// Returns what else changes if the thread throws and pops this stack entry: an action's barrier, which breaks, or nothing.
 fn reach_of_entry(top: &Option<Frame>) -> Reach
     ensures { result ≡ reach_of_entry top.now }
 {
@@ -27,7 +27,7 @@ fn reach_of_entry(top: &Option<Frame>) -> Reach
     }
 }
 
-/// Returns the reach of `ret` with this entry on top. It may end a routine or an action.
+/// Returns what else `ret` changes with this stack entry on top: a routine's phasers, an action's barrier, or nothing.
 fn reach_of_ret(top: &Option<Frame>) -> Reach
     ensures { result ≡ reach_of_ret top.now }
 {
@@ -38,7 +38,7 @@ fn reach_of_ret(top: &Option<Frame>) -> Reach
     }
 }
 
-/// Returns the reach of a running thread's row, with this entry on top of its stack.
+/// Returns what else a running thread's row may change. For `ret`, that depends on the top of the stack.
 fn reach_of_row(row: Row, top: &Option<Frame>) -> Reach
     ensures { result ≡ reach_of_row row top.now }
 {
@@ -58,7 +58,7 @@ fn reach_of_row(row: Row, top: &Option<Frame>) -> Reach
     }
 }
 
-/// Returns the reach of the end of a wait at this row's barrier. No thread waits at a barrier at any other row.
+/// Returns what else changes when a wait at this row's barrier ends: the barrier. At other rows, no thread waits at a barrier.
 fn reach_of_wait(row: Row) -> Reach
     ensures { result ≡ reach_of_wait row }
 {
@@ -68,8 +68,8 @@ fn reach_of_wait(row: Row) -> Reach
     }
 }
 
-/// Returns the reach of the turn of a thread with this status, at this row, with this entry on top of its stack. The end of
-/// a wait for a phase reaches nothing else.
+/// Returns what a turn may change besides its own thread, which has this status, row and top of the stack. The end of a wait
+/// for a phase changes nothing else.
 pub fn reach_in(status: Status, row: Row, top: &Option<Frame>) -> Reach
     ensures { result ≡ reach_in status row top.now }
 {

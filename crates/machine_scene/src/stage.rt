@@ -83,7 +83,7 @@ fn copies(alloc: Global, threads: &[Thread]) -> Result<Vec<Thread>, AllocError>
 }
 
 impl Stage {
-    /// Makes a stage with these threads, phasers and barriers, which fit the program, and with 0 in each cell.
+    /// Makes a stage with these threads, phasers and barriers, which fit the program. Cells are 0; who is ready is computed.
     pub fn new(
         program: &Loaded,
         threads: Vec<Thread>,
@@ -196,7 +196,7 @@ impl Stage {
         self.threads.iter().all(|thread| thread.is_finished())
     }
 
-    /// Returns the row that a thread is at.
+    /// Returns the row that a thread is at, before a step. The second call proves `StandsAt`: what the row names exists.
     #[inline(always)]
     pub(crate) fn row_of(&self, program: &Loaded, t: usize) -> Row
         requires sound { IsSound program.now most_before (scene_of self.now) }
@@ -217,7 +217,7 @@ impl Stage {
         self.cells[number]
     }
 
-    /// Returns whether thread `t` is runnable. The stored set of ready threads says so, and nothing is computed.
+    /// Returns whether thread `t` can take a turn now. The stored set of ready threads says so, and nothing is computed.
     #[inline(always)]
     pub fn is_ready(&self, program: &Loaded, t: usize) -> bool
         requires ready { KnowsReady program.now self.now }
@@ -241,7 +241,9 @@ impl Stage {
         self.has_time(row, t)
     }
 
-    /// Plays the turn of a thread that can take a step. `Err`: no memory for a value to put out, and nothing has changed.
+    /// Plays the turn of a thread that can take one, and updates the sets of ready threads. `Err`: no memory for the value that
+    /// `out` appends, and nothing has changed. `IsPlayed` says that scene and event are those of `outcome_of`, and that the
+    /// turn can be undone.
     #[inline(always)]
     pub fn turn(&mut self, program: &Loaded, t: usize) -> Result<Event, AllocError>
         requires sound { IsSound program.now most_before (scene_of self.old) }
@@ -267,7 +269,7 @@ impl Stage {
         }
     }
 
-    /// Plays the turn of a thread that is at this row, and leaves the sets of ready threads for the caller to bring up to date.
+    /// Plays the turn of a thread that is at this row. The caller then updates the sets of ready threads. `Err` as in `turn`.
     #[inline(always)]
     fn play(&mut self, program: &Loaded, row: Row, t: usize) -> Result<Event, AllocError>
         requires sound { IsSound program.now most_before (scene_of self.old) }
@@ -290,7 +292,7 @@ impl Stage {
         }
     }
 
-    /// Plays a turn by what the thread is doing: it plays its row, pops a stack entry, or ends its wait.
+    /// Plays a turn by what the thread is doing: it plays its row, pops a stack entry, or ends its wait. `Err` as in `turn`.
     #[inline(always)]
     #[tactic(auto, using(crate::proofs::Reaches::within_same))]
     fn play_by_status(&mut self, program: &Loaded, row: Row, t: usize) -> Result<Event, AllocError>
@@ -316,7 +318,7 @@ impl Stage {
         }
     }
 
-    /// Plays the row of a running thread, by the function of the row's group.
+    /// Plays the row of a running thread, by the function of the row's group. `Err` as in `turn`.
     #[tactic(auto, using(crate::proofs::Reaches::within_same))]
     fn play_row(&mut self, program: &Loaded, row: Row, t: usize) -> Result<Event, AllocError>
         requires sound { IsSound program.now most_before (scene_of self.old) }
@@ -341,7 +343,7 @@ impl Stage {
         }
     }
 
-    /// Ends a thread's timed wait, which can expire: the thread throws `TimeoutException`.
+    /// Ends a timed wait that can expire: the thread throws `TimeoutException`. It also updates the sets of ready threads.
     pub fn expire(&mut self, program: &Loaded, t: usize) -> Event
         requires sound { IsSound program.now most_before (scene_of self.old) }
         requires known { KnowsReady program.now self.old }

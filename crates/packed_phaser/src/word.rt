@@ -144,7 +144,7 @@ impl Word {
         Phase::prevailing(unpacked(self.bits).phase as i32)
     }
 
-    /// `getPhase`: the number of the phase, less 2147483648 once the phaser is terminated. It is the word's upper half.
+    /// Returns `getPhase`: the phase's number, less 2147483648 once the phaser is terminated. It is the word's upper half.
     #[tactic(auto, unfolding(crate::specs::Word::fields_of))]
     pub fn phase_view(self) -> i32
         ensures { result ≡ view_of (record_of self) }
@@ -152,14 +152,14 @@ impl Word {
         ((self.bits >> 32) as u32).cast_signed()
     }
 
-    /// `getRegisteredParties`: how many parties are registered, also once the phaser is terminated.
+    /// Returns `getRegisteredParties`: how many parties are registered, also once the phaser is terminated.
     pub fn parties(self) -> u16
         ensures { result ≡ (record_of self).parties }
     {
         unpacked(self.bits).parties
     }
 
-    /// `getArrivedParties`: how many parties have arrived in this phase; all of them once the phaser is terminated.
+    /// Returns `getArrivedParties`: how many parties have arrived in this phase; all of them once the phaser is terminated.
     pub fn arrived(self) -> u16
         ensures { result ≡ (record_of self).arrived }
     {
@@ -171,14 +171,14 @@ impl Word {
         }
     }
 
-    /// `getUnarrivedParties`: how many parties are still to arrive; 0 once the phaser is terminated.
+    /// Returns `getUnarrivedParties`: how many parties are still to arrive; 0 once the phaser is terminated.
     pub fn unarrived(self) -> u16
         ensures { result ≡ unarrived_of (record_of self) }
     {
         self.parties() - self.arrived()
     }
 
-    /// `isTerminated`: whether the field `ended` is 1.
+    /// Returns `isTerminated`: whether the field `ended` is 1.
     pub fn is_terminated(self) -> bool
         ensures { result ≡ (record_of self).ended }
     {
@@ -201,8 +201,8 @@ impl Word {
         !fields.ended && fields.unarrived == 0
     }
 
-    /// `register` if `count` is 1, and otherwise `bulkRegister(count)`. 0 parties change nothing. The first parties of an
-    /// empty phaser replace the 1 in `unarrived`, which isn't a party.
+    /// Plays `register` if `count` is 1, and otherwise `bulkRegister(count)`. 0 parties change nothing. The first parties of an
+    /// empty phaser replace the 1 in `unarrived`, which isn't a party. `Held`: Java's call would wait for the next phase.
     pub fn register(self, count: u32) -> Registered
         ensures { registration_of result ≡ register count (record_of self) }
     {
@@ -254,7 +254,7 @@ impl Word {
         }
     }
 
-    /// `arrive`, or `arriveAndDeregister` if `leave`. After `Turned` the phase doesn't end until the caller calls `advance`.
+    /// Plays `arrive`, or `arriveAndDeregister` if `leave`. After `Turned` the phase ends only when the caller calls `advance`.
     pub fn arrive(self, leave: bool) -> Arrived
         ensures { arrival_of result ≡ arrive leave (record_of self) }
     {
@@ -271,7 +271,7 @@ impl Word {
         Arrived::Turned(self.without_one(leave))
     }
 
-    /// `arrive` for a word of an earlier phase: the word first enters the phase of `other`, in which no party has arrived.
+    /// Plays `arrive` for a word of an earlier phase: it first enters the phase of `other`, in which no party has arrived.
     #[inline(always)]
     pub fn arrive_anew(self, other: Word, leave: bool) -> Arrived
         ensures { arrival_of result
@@ -329,7 +329,7 @@ impl Word {
         Word::fresh(phase, self.parties())
     }
 
-    /// `forceTermination`: sets the field `ended`, and leaves the three others.
+    /// Plays `forceTermination`: sets the field `ended`, and leaves the three others.
     pub fn force(self) -> Word
         ensures record { record_of result ≡ force (record_of self) }
         ensures fields { fields_of result ≡ record (fields_of self) { ended = true } }

@@ -31,8 +31,7 @@ fn did(pen: &Pen<'_, '_>, choice: Choice, row: Row, event: &Event) -> Result<Vec
     )
 }
 
-/// Returns the line of choice `number`, at `row` and with this event, in the block from thread `first` on. `machine` is the
-/// one after it.
+/// Returns the line of choice `number` and its event in the block from thread `first` on. `machine` is as it is afterwards.
 fn played_line(
     pen: &Pen<'_, '_>,
     machine: &Machine,
@@ -60,7 +59,7 @@ fn played_line(
     )
 }
 
-/// Returns `no thread t9` for a thread that doesn't exist. For the limit, which the thread's column shows, returns nothing.
+/// Returns `no thread t9` for a thread that doesn't exist. At the limit it returns nothing: the thread's column shows that.
 fn refused_words(alloc: Global, why: StepFault, thread: u8) -> Result<Vec<u8>, AllocError>
     ensures { IfOk result (λ text. text.items ≡ refused_words why thread) }
 {
@@ -97,7 +96,7 @@ fn refused_line(
     )
 }
 
-/// Plays a choice of an existing thread, and appends its line. Returns whether it was accepted.
+/// Plays a choice of an existing thread, and appends its line. Returns false if it was refused because of the limit.
 fn draw_turn(
     pen: &Pen<'_, '_>,
     text: &mut Vec<u8>,
@@ -127,7 +126,7 @@ fn draw_turn(
     }
 }
 
-/// Plays a choice, and appends its line. Returns whether the choice was accepted.
+/// Plays a choice, and appends its line. Returns false if it was refused: at the limit, or because its thread doesn't exist.
 fn draw_choice(
     pen: &Pen<'_, '_>,
     text: &mut Vec<u8>,

@@ -9,8 +9,8 @@ use instruction_table::{OperandKind, Row, row_shape};
 use row_code::fields_of;
 use std::alloc::AllocError;
 
-/// Returns what stands before the number of something without a name: `t` for a thread, `p` for a phaser, `b` for a barrier,
-/// `c` for a cell, and `#` for a row.
+/// Returns what stands before the number of something without a name: `t` for a thread, `p` for a phaser, `b` for a barrier. It
+/// is `c` for a cell, and `#` for a row.
 fn letter(kind: OperandKind) -> &'static [u8]
     ensures { result.now ≡ letter kind }
 {

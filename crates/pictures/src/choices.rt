@@ -32,7 +32,8 @@ fn have_more(runs: &[Run], most: u64) -> bool
     false
 }
 
-/// Returns the runs of a schedule, or its fault, or `Choices` if there are more than `most` choices.
+/// Returns the runs of a schedule, or its fault, or `Choices` if there are more than `most`. A run is a choice and how often.
+/// By the clauses, each fault is returned only if it is there, and no other faults are returned.
 pub(crate) fn runs_in(alloc: Global, schedule: &[u8], most: u64) -> Result<Vec<Run>, PageFault>
     requires { length schedule.now < 9223372036854775807 }
     ensures runs { IfOk result (λ runs. AreRunsOf schedule.now runs.items) }
@@ -54,7 +55,7 @@ pub(crate) fn runs_in(alloc: Global, schedule: &[u8], most: u64) -> Result<Vec<R
     Ok(runs)
 }
 
-/// Appends the choices of a run.
+/// Appends a run's choice, as often as the run has it.
 fn add_run(choices: &mut Vec<Choice>, run: Run) -> Result<(), AllocError>
     requires { length choices.old.items + run.times ≤ most_choices }
     ensures { OnOk result (choices.new.items ≡ choices.old.items ++ replicate run.times run.choice) }
@@ -62,7 +63,7 @@ fn add_run(choices: &mut Vec<Choice>, run: Run) -> Result<(), AllocError>
     choices.resize(choices.len() + run.times as usize, run.choice)
 }
 
-/// Returns the choices of these runs.
+/// Returns the choices of these runs, one by one, each as often as its run has it.
 fn choices_of(alloc: Global, runs: &[Run]) -> Result<Vec<Choice>, AllocError>
     requires { length (choices_of runs.now) ≤ most_choices }
     ensures { IfOk result (λ choices. choices.items ≡ choices_of runs.now) }
@@ -74,7 +75,8 @@ fn choices_of(alloc: Global, runs: &[Run]) -> Result<Vec<Choice>, AllocError>
     Ok(choices)
 }
 
-/// Returns the choices of a schedule's text, or the schedule's fault, or `Choices` if there are more than 2,000.
+/// Returns the choices of a schedule's text, one by one, or the schedule's fault, or `Choices` if they are more than 2,000. By
+/// the clauses, each fault is returned only if it is there, and no other faults are returned.
 pub fn choices_in(alloc: Global, schedule: &[u8]) -> Result<Vec<Choice>, PageFault>
     requires { length schedule.now < 9223372036854775807 }
     ensures choices { IfOk result (λ choices. AreChoicesOf schedule.now choices.items) }

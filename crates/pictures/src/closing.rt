@@ -48,8 +48,8 @@ fn have_all_arrived(forest: &Forest, id: PhaserId) -> bool
     !forest.is_terminated(id) && parties != 0 && forest.arrived(id) == parties
 }
 
-/// Returns the phaser that a thread at this phaser really waits for: this one if a party of it is missing, or else the first
-/// one above with a missing party, or the root. A tree has at most eight levels.
+/// Returns the phaser that a thread at this phaser really waits for. It is this one if a party of it is missing, or else the
+/// first one above with a missing party, or the root. A tree has at most eight levels.
 fn missing_for(forest: &Forest, id: PhaserId) -> PhaserId
     requires { id.0 < length forest.now }
     ensures phaser { result.0 ≡ missing_for (phasers_of forest.now) id.0 }
@@ -101,6 +101,7 @@ fn phase(forest: &Forest, number: u16) -> i32
     if usize::from(number) >= forest.len() {
         return 0;
     }
+    // A law of forests: it changes nothing, and this function's proof needs what it says.
     forest.is_forest();
     forest.phase(PhaserId(number as u8))
 }
@@ -140,6 +141,7 @@ fn push_phaser(
     if has_ended(machine, thread, number) {
         return front.extend_from_slice(b" (its phase has ended)");
     }
+    // A law of forests: it changes nothing, and this function's proof needs what it says.
     forest.is_forest();
     push_arrived_at(pen, front, back, forest, PhaserId(number as u8))
 }
@@ -150,7 +152,7 @@ fn wait_at(machine: &Machine, thread: u8, barrier: u16) -> Option<WaitState>
     requires { thread < length machine.now.scene.threads }
     ensures { result ≡ wait_at (barrier_at (scene_of machine.now.scene) barrier).waits thread }
 {
-    // There are at most 64.
+    // The call is only for its contract, which says that there are at most 64 threads: the proof needs it.
     let _ = machine.thread_count();
     if usize::from(barrier) >= machine.barrier_count() {
         return None;
@@ -197,8 +199,8 @@ fn push_name(
     text.extend_from_slice(name.as_slice())
 }
 
-/// Appends to `front` what a thread at this row waits at, and to `back` how many have arrived further up. A row that isn't a
-/// wait adds nothing.
+/// Appends to `front` what a thread at this row waits at, if it does, and to `back` how many have arrived further up. A line is
+/// `front` and then `back`; if it is too long, `front` is cut.
 #[tactic(auto, using(crate::proofs::Awaited::awaited_at))]
 fn push_awaited(
     pen: &Pen<'_, '_>,
@@ -226,8 +228,8 @@ fn push_awaited(
     }
 }
 
-/// Returns the exception that a waiting thread throws at its next turn, if its wait can end and does so by one: 3 if the
-/// thread is interrupted, 4 if its barrier broke.
+/// Returns the exception that a waiting thread throws at its next turn: 3 if the thread is interrupted, 4 if its barrier broke.
+/// None if it throws none then.
 fn thrown(machine: &Machine, thread: u8, row: Row) -> Option<i32>
     requires { thread < length machine.now.scene.threads }
     ensures phase { let scene = scene_of machine.now.scene in (phase : ℤ) → (thread_at scene thread).status ≡ Status.AwaitsPhase phase
@@ -254,8 +256,7 @@ fn thrown(machine: &Machine, thread: u8, row: Row) -> Option<i32>
     }
 }
 
-/// Appends `: can go on`, `: throws 4`, `: can expire` or `: stuck` for a waiting thread, or nothing if it depends on others
-/// that go on.
+/// Appends `: can go on`, `: throws 4`, `: can expire` or `: stuck`; nothing if only others can still end the wait.
 fn push_hope(text: &mut Vec<u8>, machine: &Machine, thread: u8, row: Row) -> Result<(), AllocError>
     requires thread { thread < length machine.now.scene.threads }
     requires row { let world = world_of machine.now in row ≡ row_at world.program.rows (thread_at world.scene thread).pc }

@@ -13,7 +13,7 @@ use instruction_table::{OperandKind, Row};
 use std::alloc::AllocError;
 use thread_machine::Machine;
 
-/// Returns the row that a thread is at.
+/// Returns the row of the program that a thread plays at its next turn.
 pub fn row_of(machine: &Machine, thread: u8) -> Row
     requires { thread < length machine.now.scene.threads }
     ensures { let world = world_of machine.now in

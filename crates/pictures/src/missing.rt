@@ -13,7 +13,7 @@ pub struct Shown {
     pub missing: Option<(u64, Choice)>,
 }
 
-/// Returns the choice of a thread that doesn't exist, if it ended the run that led to `machine`, and its place from 1.
+/// Returns the choice whose thread doesn't exist, and its number from 1, if it ended this run. None if none did.
 pub fn missing(machine: &Machine, choices: &[Choice]) -> Option<(u64, Choice)>
     ensures { result ≡ missing_at (world_of machine.now) choices.now }
 {
@@ -25,7 +25,7 @@ pub fn missing(machine: &Machine, choices: &[Choice]) -> Option<(u64, Choice)>
     Some((made.saturating_add(1), choice))
 }
 
-/// Returns the refused choice that ended a run, and its place from 1, if its thread doesn't exist.
+/// Returns the choice whose thread doesn't exist, and its number from 1, if a run's end names one. None if it names none.
 pub(crate) fn missing_told(end: &RunEnd) -> Option<(u64, Choice)>
     ensures { result ≡ missing_told end.now.refused }
 {

@@ -46,12 +46,13 @@ impl From<AllocError> for PageFault {
 
     ghost from_gives = { λ _ fault. fault ≡ Memory };
 
+    /// Turns missing memory into `PageFault::Memory`, so that `?` can pass it on.
     fn from(_error: AllocError) -> PageFault {
         PageFault::Memory
     }
 }
 
-/// Loads an image's program, or returns why it can't be loaded.
+/// Loads an image's program, or returns why it can't be loaded: `Load`, or `Memory` if there was too little.
 fn loaded(alloc: Global, image: Image) -> Result<Loaded, PageFault>
     ensures program { IfOk result (λ program. IsProgramOf image program) }
     ensures none { OnOk result (first_fault image ≡ None) }
@@ -76,7 +77,7 @@ struct Traced {
     missing: Option<(u64, Choice)>,
 }
 
-/// Plays these runs on a program, and keeps their trace, but only its first 16,777,216 bytes.
+/// Plays these runs on a program, and counts all bytes of their trace, but keeps only the first 16,777,216.
 fn trace_of_runs(alloc: Global, program: Loaded, runs: &[Run]) -> Result<Traced, AllocError>
     ensures text { IfOk result (λ traced. traced.text.written ≡ trace_of (first_world program 1000000000) (choices_of runs.now)) }
     ensures missing { IfOk result (λ traced. traced.missing
@@ -91,7 +92,7 @@ fn trace_of_runs(alloc: Global, program: Loaded, runs: &[Run]) -> Result<Traced,
     Ok(Traced { text, missing })
 }
 
-/// Returns a trace as a whole, or `Trace` if it has more than 16,777,216 bytes.
+/// Returns a trace if all of it was kept. Else returns `Trace` if it is too long for a page, or `Memory`.
 fn whole(text: &CountingSink) -> Result<&[u8], PageFault>
     ensures whole { IfOk result (λ trace. (trace.now ≡ text.now.written) × (length text.now.written ≤ most_trace)) }
     ensures long { result ≡ Err PageFault.Trace → most_trace < length text.now.written }
@@ -146,7 +147,7 @@ fn page_in(
     Ok(page)
 }
 
-/// Returns the page of a program under these runs, with this listing and source.
+/// Returns the page of a program under these runs, with this listing and source, or `Trace` or `Memory`.
 fn show_runs(
     alloc: Global,
     frame: Frame,
@@ -172,7 +173,8 @@ fn show_runs(
     Ok(Shown { bytes, missing })
 }
 
-/// Returns the page of a program with these fixed parts: its source, which may be empty, its schedule and its trace.
+/// Returns the page of a program with its source, which may be empty, its schedule and its trace; or what is wrong with them.
+/// By the clauses, each fault is returned only if it is there, and an image with a load fault never has a page.
 pub fn page(
     alloc: Global,
     frame: Frame,

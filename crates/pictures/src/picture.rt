@@ -12,7 +12,7 @@ use assembler::Symbols;
 use std::alloc::{AllocError, Global};
 use thread_machine::{Choice, Machine};
 
-/// Draws block `number`, from 0, and an empty line. It plays the choices on this machine.
+/// Draws block `number`, from 0, with some of the threads, and an empty line. It plays the choices on this machine.
 fn draw_spaced(
     pen: &Pen<'_, '_>,
     text: &mut Vec<u8>,
@@ -28,7 +28,7 @@ fn draw_spaced(
     push_line(text, pen.sheet.width, b"")
 }
 
-/// Draws block `number`, from 0, and an empty line. It plays the choices on a copy.
+/// Draws block `number`, from 0, and an empty line. It plays the choices on a copy, so the next block can play them again.
 fn draw_other(
     pen: &Pen<'_, '_>,
     text: &mut Vec<u8>,

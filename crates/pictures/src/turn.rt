@@ -85,7 +85,7 @@ pub fn standing(ready: bool, status: Status) -> &'static [u8]
     }
 }
 
-/// Returns the name of the phaser or barrier that changed, or nothing.
+/// Returns the name of the phaser or barrier that a choice changed, or no bytes if it changed none.
 fn marked(pen: &Pen<'_, '_>, mark: Mark) -> Result<Vec<u8>, AllocError>
     ensures { IfOk result (λ text. text.items ≡ marked pen.now.symbols.now mark) }
 {
@@ -118,7 +118,7 @@ fn push_view(text: &mut Vec<u8>, view: i32) -> Result<(), AllocError>
     }
 }
 
-/// Returns what happened to the phaser or barrier, as `: phase 1` or ` trips`, or nothing.
+/// Returns what happened to the phaser or barrier, as `: phase 1` or ` trips`, or no bytes.
 fn mark_words(alloc: Global, mark: Mark) -> Result<Vec<u8>, AllocError>
     ensures { IfOk result (λ text. text.items ≡ mark_words mark) }
 {
@@ -132,7 +132,7 @@ fn mark_words(alloc: Global, mark: Mark) -> Result<Vec<u8>, AllocError>
     Ok(text)
 }
 
-/// Returns what a choice changed besides its own thread, as `p: phase 1`, shortened to its room; nothing if that is nothing.
+/// Returns what a choice changed besides its own thread, as `p: phase 1`, cut to its room; no bytes if it changed nothing.
 pub fn told(pen: &Pen<'_, '_>, mark: Mark) -> Result<Vec<u8>, AllocError>
     ensures { IfOk result (λ text. text.items
         ≡ kept_behind (mark_room pen.now.sheet) (marked pen.now.symbols.now mark) (mark_words mark)) }

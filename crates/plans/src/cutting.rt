@@ -39,6 +39,7 @@ fn begins_count(rest: &[u8]) -> bool
     matches!(rest, [b'*', ..])
 }
 
+/// Returns whether this byte is `(` or `)`.
 fn is_parenthesis(byte: u8) -> bool
     ensures { result ≡ is_parenthesis byte }
 {

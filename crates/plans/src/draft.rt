@@ -64,7 +64,7 @@ impl Reading {
         }
     }
 
-    /// Appends the word that `bytes` spell, for threads with these names, or returns what is wrong. `line` is noted for a `(`.
+    /// Appends the word that `bytes` spell, for threads with these names, or returns what is wrong. `line` is kept for a `(`.
     fn add_said(&mut self, names: &[&[u8]], line: u64, bytes: &[u8]) -> Result<(), PlanFaultKind>
         requires { length names.now ≤ 64 }
         ensures { AnswersSaid (λ _. draft_of self.new) result
@@ -78,7 +78,7 @@ impl Reading {
         }
     }
 
-    /// Appends the word that `bytes` spell, for threads with these names, or returns what is wrong, with the line's number.
+    /// Appends the word that `bytes` spell, for threads with these names, or returns what is wrong, and in which line.
     fn add_word(&mut self, names: &[&[u8]], line: u64, bytes: &[u8]) -> Result<(), PlanFault>
         requires { length names.now ≤ 64 }
         ensures { AnswersPlan (λ _. draft_of self.new) result

@@ -32,7 +32,7 @@ impl Player {
         self.follow(alloc, Rule::Alone(choice.thread), MOST_TURNS)
     }
 
-    /// Makes a choice of the run's own if it is a step now, and otherwise nothing: other choices have come before it.
+    /// Makes a choice of the original run if it is a step now. Otherwise it does nothing: other choices have come before it.
     #[tactic(auto, unfolding(crate::specs::Others::kept))]
     fn keep(&mut self, choice: Choice) -> Result<(), AllocError>
         ensures { OnOk result (self.new ≡ kept choice self.old) }
@@ -44,7 +44,7 @@ impl Player {
         }
     }
 
-    /// Makes the choices of the run's own in order, and leaves out those that wouldn't be a step.
+    /// Makes the choices of the original run in order, and leaves out those that wouldn't be a step.
     fn keep_all(&mut self, choices: &[Choice]) -> Result<(), AllocError>
         ensures { OnOk result (self.new ≡ all_kept choices.now self.old) }
     {
@@ -65,7 +65,7 @@ impl Player {
 }
 
 /// Returns what follows if another choice is made at this point of a run, at most `most` choices: the choice and turns of its
-/// thread, then the run's own choices that still do something, and then turns of all threads.
+/// thread, then the original choices that still do something (`own`), and then turns of all threads.
 pub fn other_choices(
     alloc: Global,
     machine: Machine,

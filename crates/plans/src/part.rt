@@ -77,7 +77,7 @@ fn numbered(part: Part, number: u32) -> Stored
     }
 }
 
-/// Returns how a choice that is made `times` times is stored. For once no number is stored.
+/// Returns how a choice that is made `times` times is stored. If that is 1, no number is stored.
 fn stored_choice(chosen: Chosen, times: u32) -> Stored
     ensures { Holds result (Word.Step (Step.Make chosen times)) }
 {

@@ -9,8 +9,8 @@ use loader::Loaded;
 use std::alloc::{AllocError, Global};
 use thread_machine::Machine;
 
-/// Plays a plan of at most `most` choices from the beginning of a program. Returns its choices, the machine after them, and whether
-/// it was cut off.
+/// Plays a plan of at most `most` choices from the beginning of a program. Returns its choices, the machine after them, and
+/// whether it was cut off.
 pub fn plan_runs(
     alloc: Global,
     program: Loaded,

@@ -115,6 +115,7 @@ impl Player {
         self.left == 0 && self.stopped
     }
 
+    /// Returns how many threads the program has.
     pub fn thread_count(&self) -> usize
         ensures count { result ≡ thread_count self.now.world }
         ensures few { result ≤ 64 }

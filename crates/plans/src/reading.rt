@@ -18,6 +18,7 @@ fn stem_of(word: &[u8]) -> &[u8]
     &word[..length_before(b'*', word)]
 }
 
+/// Returns whether a word contains a `*`.
 fn has_star(word: &[u8]) -> bool
     ensures { result ≡ has_star word.now }
 {
@@ -43,14 +44,14 @@ fn is_name(word: &[u8]) -> bool
     }
 }
 
-/// Returns whether a stem begins with `?`, as `?7` does, which chooses threads by the seed 7.
+/// Returns whether a stem, a word up to its `*`, begins with `?`, as `?7` does, which chooses threads by the seed 7.
 fn is_seeded(stem: &[u8]) -> bool
     ensures { result ≡ is_seeded stem.now }
 {
     matches!(stem, [b'?', ..])
 }
 
-/// Returns whether a stem ends in `.`, as `ann.` and `..` do.
+/// Returns whether a stem, a word up to its `*`, ends in `.`, as `ann.` and `..` do.
 fn has_dot(stem: &[u8]) -> bool
     ensures { result ≡ has_dot stem.now }
 {
@@ -64,14 +65,14 @@ fn before_dot(stem: &[u8]) -> &[u8]
     &stem[..stem.len().saturating_sub(1)]
 }
 
-/// Returns whether a stem is a name and a dot: turns of one thread alone.
+/// Returns whether a stem, a word up to its `*`, is a name and a dot, as `ann.`: turns of one thread alone.
 fn is_alone(stem: &[u8]) -> bool
     ensures { result ≡ is_alone stem.now }
 {
     has_dot(stem) && is_name(before_dot(stem))
 }
 
-/// Returns whether a count may follow a stem: `)`, `..`, a name, or a `?` and any bytes.
+/// Returns whether a count as `*3` may follow this stem: it is `)`, `..`, a name, or a `?` and any bytes.
 fn may_repeat(stem: &[u8]) -> bool
     ensures { result ≡ may_repeat stem.now }
 {
@@ -98,6 +99,7 @@ fn times_in(word: &[u8]) -> Result<Option<u32>, PlanFaultKind>
     }
 }
 
+/// Returns the count, or 1 without one.
 fn or_once(times: Option<u32>) -> u32
     ensures { result ≡ or_once times }
 {
@@ -134,7 +136,7 @@ fn numbered(count: usize, expiry: bool, digits: &[u8]) -> Result<Chosen, PlanFau
     }
 }
 
-/// Returns the number of the thread that has this name, its place in `names`, or `None`.
+/// Returns the number of the thread that has this name, its place in `names`. `None`: no thread has it.
 fn thread_named(names: &[&[u8]], name: &[u8]) -> Option<u8>
     requires { length names.now ≤ 64 }
     ensures { result ≡ thread_named (map name_seen names.now) name.now }
@@ -216,7 +218,7 @@ fn chosen_by(names: &[&[u8]], name: &[u8]) -> Result<Chosen, PlanFaultKind>
     }
 }
 
-/// Returns the word for this choice, made `times` times, or once without a count. It never fails.
+/// Returns the word for this choice, made `times` times, or once without a count. Never `Err`: the type is that of `meaning`.
 fn make(times: Option<u32>, chosen: Chosen) -> Result<Word, PlanFaultKind>
     ensures { result ≡ make times chosen }
 {
@@ -239,7 +241,7 @@ fn alone(chosen: Chosen) -> Result<Word, PlanFaultKind>
     }))
 }
 
-/// Returns the word for choices by the seed that these digits spell, at most `times`. No seed below 2 to the 64th is `BadSeed`.
+/// Returns the word for choices by the seed that these digits spell, at most `times`. `BadSeed`: no number below 2^64.
 fn seeded(times: Option<u32>, digits: &[u8]) -> Result<Word, PlanFaultKind>
     ensures { result ≡ seeded_by times (seed_in digits.now) }
 {

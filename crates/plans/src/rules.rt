@@ -20,7 +20,7 @@ fn word_at(seed: u64, k: u32) -> u32
     words.next_word()
 }
 
-/// Returns the choice at place `word` modulo their number, or `None` if there is none.
+/// Returns the choice at place `word`, a random number, modulo the number of choices. `None`: there is no choice.
 fn picked(word: u32, choices: &[Choice]) -> Option<Choice>
     ensures { result ≡ picked word choices.now }
 {
@@ -30,6 +30,7 @@ fn picked(word: u32, choices: &[Choice]) -> Option<Choice>
     Some(choices[word as usize % choices.len()])
 }
 
+/// Returns the choice of a thread's turn.
 fn turn_of(thread: u8) -> Choice
     ensures { result ≡ turn_of thread }
 {
@@ -39,7 +40,7 @@ fn turn_of(thread: u8) -> Choice
     }
 }
 
-/// Appends `choice`, if it is a choice and not `None`.
+/// Appends the choice, or nothing for `None`. `Err`: no memory.
 fn push_made(choices: &mut Vec<Choice>, choice: Option<Choice>) -> Result<(), AllocError>
     ensures { OnOk result (choices.new.items ≡ choices.old.items ++ cons_option choice []) }
 {
@@ -50,7 +51,7 @@ fn push_made(choices: &mut Vec<Choice>, choice: Option<Choice>) -> Result<(), Al
 }
 
 impl Player {
-    /// Returns the turn of a thread, or `None` if there is no such thread or it isn't runnable.
+    /// Returns the turn of a thread. `None`: there is no such thread, or it can't take a turn now.
     fn alone(&self, thread: u8) -> Option<Choice>
         ensures { result ≡ alone thread self.now.world }
     {
@@ -61,7 +62,7 @@ impl Player {
         }
     }
 
-    /// Returns the first runnable thread from number `low` on, or `None`.
+    /// Returns the first thread from number `low` on that can take a turn. `None`: none can.
     fn first_ready(&self, low: u8) -> Option<u8>
         ensures { result ≡ find (is_ready_in self.now.world) (threads_from low self.now.world) }
     {
@@ -73,7 +74,7 @@ impl Player {
         None
     }
 
-    /// Returns the thread with the lowest number whose wait may time out, or `None`.
+    /// Returns the thread with the lowest number whose wait may time out. `None`: no wait may.
     fn first_expiring(&self) -> Option<u8>
         ensures { result ≡ find (can_expire_in self.now.world) (threads_from 0 self.now.world) }
     {
@@ -85,8 +86,8 @@ impl Player {
         None
     }
 
-    /// Returns the turn of the next runnable thread after the last one chosen, round to that one. If none is runnable, returns
-    /// the lowest thread's expiry that is possible, or `None`.
+    /// Returns the turn of the next thread, after the last one chosen and then from 0 on, that can take one. If none can,
+    /// returns the lowest thread's expiry that is possible, or `None`.
     #[tactic(auto, unfolding(crate::specs::Rules::turn_about))]
     fn turn_about(&self) -> Option<Choice>
         ensures { result ≡ turn_about self.now.next self.now.world }
@@ -106,7 +107,7 @@ impl Player {
         }
     }
 
-    /// Returns a thread's turn if that is a step, or else its expiry if its wait may time out, or `None`.
+    /// Returns a thread's turn if it can take one, or else its expiry if its wait may time out. `None`: neither is possible.
     fn choice_in(&self, thread: u8) -> Option<Choice>
         requires { thread < thread_count self.now.world }
         ensures { result ≡ choice_in self.now.world thread }

@@ -7,6 +7,7 @@ use crate::word::{Chosen, Rule, Step};
 use std::alloc::{AllocError, Global};
 use thread_machine::Choice;
 
+/// Returns what a plan's word chooses, in the type that a machine takes.
 fn choice_of(who: Chosen) -> Choice
     ensures { result ≡ choice_of who }
 {

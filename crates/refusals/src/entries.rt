@@ -70,7 +70,7 @@ pub mod term;
 
 use crate::entry::Entry;
 
-/// The tables. Of several entries that words ask for it is the first.
+/// Returns all tables of entries. If words fit several entries, the first one counts.
 pub fn tables() -> [&'static [Entry]; 14] {
     [
         &asm::ASM,

@@ -81,7 +81,7 @@ fn push_place<W: Sink>(output: &mut W, place: Option<Place>) -> Result<(), Faile
 }
 
 impl Entry {
-    /// Writes what the line means, with its place.
+    /// Writes the entry without its first line: what the line means, its place, what helps, an example, and where to read more.
     pub fn push_words<W: Sink>(self, output: &mut W, place: Option<Place>) -> Result<(), Failed>
         ensures bytes { OnOk result (Appends (W.written output.old) (W.written output.new) (words_of (self) place)) }
         ensures failed { OnErr result (IsTrue (W.has_failed output.new)) }
@@ -93,7 +93,7 @@ impl Entry {
         push_line(output, b"  More:    ", self.more)
     }
 
-    /// Writes the whole entry.
+    /// Writes the whole entry: the line that it explains, and below it what `push_words` writes.
     pub fn push<W: Sink>(self, output: &mut W, place: Option<Place>) -> Result<(), Failed>
         ensures bytes { OnOk result (Appends (W.written output.old) (W.written output.new) (text_of (self) place)) }
         ensures failed { OnErr result (IsTrue (W.has_failed output.new)) }

@@ -36,7 +36,7 @@ explain locks, latch, join, ..      what Java has, and how it is here
 /// What is written if no line has the words.
 pub const NO_LINE: &[u8] = b"error: `explain` doesn't know these words\n";
 
-/// Returns the entry of the one word that is asked for, if it is a word of the language.
+/// Returns the entry of the language's word, if the words are exactly one such word. None for all else.
 fn entry_asked(words: &[&str]) -> Option<WordEntry>
     ensures { MatchOption result (AreNoWord (texts words.now)) (λ e. AreItsWord e (texts words.now)) }
 {
@@ -46,14 +46,14 @@ fn entry_asked(words: &[&str]) -> Option<WordEntry>
     }
 }
 
-/// Writes the entry of these tables that the words ask for. The words are those of a line on standard error, or one word of the
-/// language. Without words it writes what can be asked. Returns whether there is such an entry.
+/// Writes the entry that the words ask for: those of a line on standard error, or one word of the language. Without words it
+/// writes what can be asked. Returns false if no entry fits.
 pub fn explain<W: Sink>(tables: &[&[Entry]], words: &[&str], output: &mut W) -> Result<bool, Failed>
     // The entry of the word of the language, or of the question that the words ask for, is written, and nothing else; without
     // words, what can be asked.
     ensures told { result ≡ Ok true → HasExplained QUESTIONS.now tables.now (texts words.now) (W.written output.old) (W.written output.new) }
 
-    // Words of no line, nor a word of the language: nothing is written.
+    // False means: the words fit no entry and are no word of the language, and nothing is written.
     ensures none { result ≡ Ok false → (q : Question) → AsksFor tables.now (texts words.now) q → ⊥ }
     ensures no_word { result ≡ Ok false → AreNoWord (texts words.now) }
     ensures untold { result ≡ Ok false → W.written output.new ≡ W.written output.old }

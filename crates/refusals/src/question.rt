@@ -15,14 +15,14 @@ pub struct Question {
     pub place: Option<Place>,
 }
 
-/// Whether a word of a pattern stands for the number of a place: it begins with a blank.
+/// Returns whether a word of a pattern stands for the number of a place: it begins with a blank.
 fn is_place(word: &str) -> bool
     ensures { result ≡ is_place word.now }
 {
     word.as_bytes().first() == Some(&b' ')
 }
 
-/// The number that digits alone spell. None for a sign, other signs, or too large a number.
+/// Returns the number that digits alone spell. None for a sign, other characters, or too large a number.
 fn number(text: &str) -> Option<u64>
     ensures { MatchOption result ((n : ℕ) → Spells text.now n → ⊥) (Spells text.now) }
 {
@@ -32,7 +32,7 @@ fn number(text: &str) -> Option<u64>
     text.parse::<u64>().ok()
 }
 
-/// Returns the place that a word has, if it is a number.
+/// Returns the place that a word gives: its number, and `asked`, which says what is counted. None if it is no number.
 fn place_told(asked: &'static str, word: &str) -> Option<Place>
     ensures { MatchOption result ((place : Option Place) → IsPlace asked.now word.now place → ⊥)
         (λ place. IsPlace asked.now word.now (Some place)) }
@@ -44,7 +44,8 @@ fn place_told(asked: &'static str, word: &str) -> Option<Place>
     })
 }
 
-/// Returns the place in words that fit a pattern, `Some(None)` if they have none. None if they don't fit.
+/// Matches words with a pattern, where `_` is any word and `..` any rest. Returns None if they don't fit, `Some(None)` if they
+/// fit and name no place, and else `Some` of their place, as line 3.
 fn fitted(pattern: &[&'static str], words: &[&str]) -> Option<Option<Place>>
     ensures { MatchOption result ((place : Option Place) → Fits (texts pattern.now) (texts words.now) place → ⊥)
         (Fits (texts pattern.now) (texts words.now)) }
@@ -66,7 +67,7 @@ fn fitted(pattern: &[&'static str], words: &[&str]) -> Option<Option<Place>>
     }
 }
 
-/// Returns what `fitted` does for the first of several patterns that words fit. None if they fit none.
+/// Returns what `fitted` returns for the first of these patterns that the words fit. None if they fit none.
 fn fitted_one(patterns: &[&'static [&'static str]], words: &[&str]) -> Option<Option<Place>>
     ensures { MatchOption result ((place : Option Place) → FitOne patterns.now (texts words.now) place → ⊥)
         (FitOne patterns.now (texts words.now)) }
@@ -80,7 +81,7 @@ fn fitted_one(patterns: &[&'static [&'static str]], words: &[&str]) -> Option<Op
     }
 }
 
-/// The first entry of a table that words ask for, with their place. None if they ask for none.
+/// Returns the first entry of a table that words ask for, with their place. None if they ask for none.
 fn question_in(entries: &[Entry], words: &[&str]) -> Option<Question>
     ensures { MatchOption result ((q : Question) → AsksIn entries.now (texts words.now) q → ⊥)
         (AsksIn entries.now (texts words.now)) }
@@ -97,7 +98,7 @@ fn question_in(entries: &[Entry], words: &[&str]) -> Option<Question>
     }
 }
 
-/// The first entry of several tables that words ask for, with their place. None if they ask for none.
+/// Returns the first entry of several tables that words ask for, with their place. None if they ask for none.
 fn question_among(tables: &[&[Entry]], words: &[&str]) -> Option<Question>
     ensures { MatchOption result ((q : Question) → AsksAmong tables.now (texts words.now) q → ⊥)
         (AsksAmong tables.now (texts words.now)) }
@@ -121,7 +122,8 @@ fn without_refused<'a, 'b>(words: &'b [&'a str]) -> &'b [&'a str]
     }
 }
 
-/// Returns what the words of a line ask for in these tables. A place may be left out, and so may the word `refused`.
+/// Returns which entry of these tables the words of a line ask for, and the place that they name. None if they fit none. A
+/// place may be left out, and so may the word `refused`.
 pub fn question_of(tables: &[&[Entry]], words: &[&str]) -> Option<Question>
     ensures { MatchOption result ((q : Question) → AsksFor tables.now (texts words.now) q → ⊥)
         (AsksFor tables.now (texts words.now)) }
@@ -129,7 +131,7 @@ pub fn question_of(tables: &[&[Entry]], words: &[&str]) -> Option<Question>
     question_among(tables, without_refused(words))
 }
 
-/// Returns what a line asks for by its words.
+/// Returns which entry of all tables a line asks for by its words. None if it asks for none.
 pub fn question_in_line(alloc: Global, line: &[u8]) -> Result<Option<Question>, AllocError> {
     let mut words = Vec::new(alloc);
     for word in str::from_utf8(line).unwrap_or("").split_ascii_whitespace() {

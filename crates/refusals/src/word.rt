@@ -17,7 +17,7 @@ pub(crate) fn is_word(word: &str, told: &str) -> bool
     word == told
 }
 
-/// Where the documents say more of a word.
+/// Returns where the documents say more of a word: a file and its heading.
 fn more_of(word: &str) -> &'static str
     ensures { result.now ≡ more_of word.now }
 {
@@ -70,7 +70,7 @@ impl WordEntry {
     }
 }
 
-/// The entry of a word, if it is one of the language.
+/// Returns the entry of a word of the language: of a row, a directive or `.run`. None for other words.
 pub fn word_entry(word: &str) -> Option<WordEntry>
     ensures { MatchOption result (IsNoWord word.now) (λ e. IsItsWord e word.now) }
 {

@@ -26,7 +26,7 @@ use std::alloc::AllocError;
 use std::io;
 use sweep::Trials;
 
-/// Tries texts, images and trees.
+/// Tries the calls on texts, images and trees with memory refused, and writes lines with the results.
 fn tell_programs(trials: &mut Trials) {
     trials.tell("assemble", texts::assembling);
     trials.tell("disassemble", texts::listing);
@@ -38,7 +38,7 @@ fn tell_programs(trials: &mut Trials) {
     trials.tell("Forest::copy", machines::copying_forest);
 }
 
-/// Tries machines, schedules, lines and runs.
+/// Tries the calls on machines, schedules, lines and runs with memory refused, and writes lines with the results.
 fn tell_machines(trials: &mut Trials) {
     trials.tell("Machine::new", machines::beginning);
     trials.tell("Machine::copy", machines::copying);
@@ -76,7 +76,7 @@ fn tell_long_runs(trials: &mut Trials) -> Result<(), AllocError> {
     Ok(())
 }
 
-/// Tries the debugger and each of its commands.
+/// Tries the debugger and each of its commands with memory refused, and writes lines with the results.
 fn tell_debugger(trials: &mut Trials) {
     trials.tell("Debugger::new", sessions::opening);
     trials.tell("Debugger::step at out", sessions::stepping);
@@ -86,7 +86,7 @@ fn tell_debugger(trials: &mut Trials) {
     }
 }
 
-/// Tries the records of real threads, and the phaser between them.
+/// Tries the records of real threads, and their phaser, with memory refused, and writes lines with the results.
 fn tell_threads(trials: &mut Trials) {
     trials.tell("Journaled::new", threads::recording);
     trials.tell("take_step at out", threads::taking_step);

@@ -23,18 +23,19 @@ fn is_refused(alloc: Global, size: usize) -> bool {
     Vec::<u8>::with_capacity(alloc, size).is_err()
 }
 
-/// From now on the request for memory with this number is refused, counted from 1: with `all` all that follow are refused, too.
+/// Has the library refuse the request for memory number `request` from now on, with `all` also all later ones. The answer to
+/// this request itself says nothing.
 pub fn begin(alloc: Global, request: u16, all: bool) {
     let mark = if all { REFUSE_ALL } else { REFUSE_ONE };
     let _ = is_refused(alloc, mark + usize::from(request));
 }
 
-/// From now on no request is refused. Returns whether one was since `begin`.
+/// Has the library refuse nothing more. Returns whether it has refused a request since `begin`.
 pub fn end(alloc: Global) -> bool {
     is_refused(alloc, END)
 }
 
-/// Makes the library note how many blocks of memory are in use, for `is_left_over`.
+/// Has the library note how many blocks of memory are in use, for `is_left_over`. The answer to this request says nothing.
 pub fn count(alloc: Global) {
     let _ = is_refused(alloc, COUNT);
 }

@@ -68,7 +68,7 @@ fn play(machine: &mut Machine, turns: &[Run]) -> Result<(), AllocError> {
     Ok(())
 }
 
-/// Returns the machine of the meeting after its first `count` choices (at most 7). Its limit of 1000 steps is never reached.
+/// Returns the machine of the program `MEETING` after its first `count` choices (at most 7). Its limit is never reached.
 pub fn meeting_after(alloc: Global, count: usize) -> Result<Machine, AllocError> {
     let mut machine = Machine::new(alloc, program_of(alloc, MEETING)?, 1000)?;
     play(&mut machine, &TURNS[..count.min(7)])?;

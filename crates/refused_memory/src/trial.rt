@@ -42,7 +42,7 @@ impl Trial {
         self.alloc
     }
 
-    /// Ends the call: no request is refused any more. Returns `answered`, the call's result, which was made before.
+    /// Has the library refuse nothing more, and returns `answered`, the call's result. So no later request is refused.
     pub fn end<T>(&self, answered: T) -> T
         ensures { result ≡ answered }
     {

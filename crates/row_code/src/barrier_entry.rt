@@ -10,8 +10,8 @@ use crate::read_fields::{i32_at, target_at, u16_at, zero_at};
 use crate::write_fault::WriteFault;
 use byte_ports::Sink;
 
-/// Returns the action's first row: `value` if `flag` is 1, none if both are 0. Otherwise the flag, at `at`, or `value`, in the
-/// field after it, is wrong.
+/// Returns the action's first row: `value` if `flag` is 1, and `None` if both are 0: there is no action. Otherwise returns the
+/// fault of the flag's field, at `at`, or of the field of `value`, after it.
 #[tactic(auto, unfolding(crate::specs::Reading::action_at))]
 fn action_at(at: usize, flag: u16, value: i32) -> Result<Option<u16>, ImageFault>
     requires { at + 2 < 2 ^ 64 }
@@ -67,6 +67,7 @@ impl Entry for DeclaredBarrier {
 
     const SIZE: usize = 8;
 
+    /// Reads barrier `n` of the list that begins at `start`. `_timed` is only of use for rows.
     fn read(
         _timed: bool,
         start: usize,
@@ -76,6 +77,7 @@ impl Entry for DeclaredBarrier {
         barrier_at(start + 8 * usize::from(n), bytes)
     }
 
+    /// Writes the 8 bytes of the barrier. Fails if the sink does.
     fn push<W: Sink>(self, sink: &mut W) -> Result<(), WriteFault> {
         sink.push(&barrier_bytes(self))?;
         Ok(())

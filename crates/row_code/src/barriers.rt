@@ -39,7 +39,7 @@ impl Barriers {
         Ok(Barriers { entries: barriers })
     }
 
-    /// Returns the barriers, by number.
+    /// Returns the barriers in the order of their numbers, from 0.
     pub fn as_slice(&self) -> &[DeclaredBarrier]
         ensures barriers { result.now ≡ self.now }
         ensures fits { length self.now ≤ 64 }

@@ -24,14 +24,14 @@ pub(crate) trait Entry: Copy {
 
     const SIZE: usize;
 
-    /// Reads the entry of number `n`. The list begins at the place `start` of the file. `timed` allows rows with a timeout.
+    /// Reads the entry of number `n`, or returns its fault. Its list begins at `start` in the file. `timed` allows timed rows.
     fn read(timed: bool, start: usize, n: u16, bytes: &[u8]) -> Result<Self, ImageFault>
         requires size { length bytes.now ≡ SIZE }
         requires place { start + 12 * n + 12 < 2 ^ 64 }
         ensures read { result ≡ reading timed start n bytes.now }
         ensures fits { IfOk result fits };
 
-    /// Writes the entry's bytes.
+    /// Appends the entry's bytes to the sink. Fails if the sink does, and then the sink has failed for good.
     fn push<W: Sink>(self, sink: &mut W) -> Result<(), WriteFault>
         requires { W.has_failed sink.old ≡ false }
         ensures bytes { OnOk result (Appends (W.written sink.old) (W.written sink.new) (spelling self)) }
@@ -63,7 +63,7 @@ pub(crate) fn read_entries<E: Entry>(
     Ok(list)
 }
 
-/// Writes the bytes of one entry after the other.
+/// Writes the bytes of one entry after the other. Fails at the first entry at which the sink fails.
 pub(crate) fn write_entries<E: Entry, W: Sink>(sink: &mut W, list: &[E]) -> Result<(), WriteFault>
     requires { W.has_failed sink.old ≡ false }
     ensures bytes { OnOk result

@@ -45,6 +45,7 @@ impl ImageFault {
 impl From<AllocError> for ImageFault {
     ghost from_gives = { λ _ e. e ≡ Memory };
 
+    /// Returns `Memory`. The operator `?` calls it when memory is refused.
     fn from(_e: AllocError) -> ImageFault {
         ImageFault::Memory
     }
@@ -53,6 +54,7 @@ impl From<AllocError> for ImageFault {
 impl<T: Drop> From<AllocFailed<T>> for ImageFault {
     ghost from_gives = { λ _ e. e ≡ Memory };
 
+    /// Returns `Memory`. The operator `?` calls it when a list has no memory for a value, which is lost.
     fn from(_e: AllocFailed<T>) -> ImageFault {
         ImageFault::Memory
     }

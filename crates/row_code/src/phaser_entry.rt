@@ -11,7 +11,7 @@ use crate::read_fields::{i32_at, phase_at, target_at, u16_at, zero_at};
 use crate::write_fault::WriteFault;
 use byte_ports::Sink;
 
-/// Returns the parent's number in a byte, 0 to 63, or none for 255. Any other byte is the fault of the field at `at`.
+/// Returns the parent's number, 0 to 63, or `None` for the byte 255: no parent. Any other byte is the fault of this field.
 fn parent_at(at: usize, byte: u8) -> Result<Option<u8>, ImageFault>
     ensures parent { result ≡ parent_at at byte }
     ensures fits { IfOk result (λ parent. IfSome parent (λ n. n < 64)) }
@@ -122,6 +122,7 @@ impl Entry for DeclaredPhaser {
 
     const SIZE: usize = 12;
 
+    /// Reads phaser `n` of the list that begins at `start`. `_timed` is only of use for rows.
     fn read(
         _timed: bool,
         start: usize,
@@ -131,6 +132,7 @@ impl Entry for DeclaredPhaser {
         phaser_at(start + 12 * usize::from(n), bytes)
     }
 
+    /// Writes the 12 bytes of the phaser. Fails if the sink does.
     fn push<W: Sink>(self, sink: &mut W) -> Result<(), WriteFault> {
         sink.push(&phaser_bytes(self))?;
         Ok(())

@@ -58,6 +58,7 @@ fn is_policy(policy: DeclaredPolicy) -> bool
 fn is_phaser(phaser: DeclaredPhaser) -> bool
     ensures { IsTrue result ↔ IsPhaser phaser }
 {
+    // Reading this field tells the proof that its number is below 65536, as `IsPhaser` requires.
     let _parties = phaser.parties;
     let has_parent = match phaser.parent {
         None => true,
@@ -92,7 +93,7 @@ impl Phasers {
         }
     }
 
-    /// Returns the phasers, by number.
+    /// Returns the phasers in the order of their numbers, from 0.
     pub fn as_slice(&self) -> &[DeclaredPhaser]
         ensures phasers { result.now ≡ self.now }
         ensures fits { ArePhasers self.now }

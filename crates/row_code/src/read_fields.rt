@@ -43,7 +43,7 @@ pub fn phase_at(at: usize, value: i32) -> Result<i32, ImageFault>
     }
 }
 
-/// Checks that the unused field at `at` is 0. Any other number is the fault of this field.
+/// Returns 0 if the number in the unused field at `at` is 0. Any other number is the fault of this field.
 pub fn zero_at(at: usize, value: i32) -> Result<i32, ImageFault>
     ensures { result ≡ zero_at at value }
 {

@@ -13,7 +13,7 @@ use crate::rows::Rows;
 use crate::threads::Threads;
 use std::alloc::Global;
 
-/// Reads the four counts, without a check.
+/// Returns the four counts in the bytes 4 to 11, each in two bytes. It doesn't check them.
 fn counts_in(bytes: &[u8]) -> Counts
     requires { 12 ≤ length bytes.now }
     ensures { result ≡ counts_in bytes.now }

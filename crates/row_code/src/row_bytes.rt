@@ -37,7 +37,8 @@ fn fields_at(bytes: [u8; 8]) -> Fields
     Fields { a, b, c, imm }
 }
 
-/// Returns the row that these bytes encode, if any: it takes the bytes for some row, and compares its encoding with them.
+/// Returns the row that these bytes encode, or `None` if they encode none. It builds a row from the bytes in any case, and
+/// returns it only if its encoding is these bytes.
 pub fn decode(bytes: [u8; 8]) -> Option<Row>
     // The row is the one with these bytes, and it is found if there is one.
     ensures found { IfSome result (λ row. IsRow row × (bytes_of row ≡ bytes)) }

@@ -46,10 +46,12 @@ impl Entry for Row {
 
     const SIZE: usize = 8;
 
+    /// Reads row `n`. Its fault names the row by `n`, so it doesn't use the place `_start` of the list.
     fn read(timed: bool, _start: usize, n: u16, bytes: &[u8]) -> Result<Row, ImageFault> {
         row_at(timed, n, bytes)
     }
 
+    /// Writes the 8 bytes of the row. Fails if the sink does.
     fn push<W: Sink>(self, sink: &mut W) -> Result<(), WriteFault> {
         sink.push(&encode(self))?;
         Ok(())

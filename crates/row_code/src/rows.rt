@@ -44,7 +44,7 @@ impl Rows {
         self.entries.iter().any(|row| is_timed(*row))
     }
 
-    /// Returns the rows, by number.
+    /// Returns the rows in the order of their numbers, from 0.
     pub fn as_slice(&self) -> &[Row]
         ensures rows { result.now ≡ self.now }
         ensures fits { length self.now ≤ 65535 }

@@ -10,7 +10,7 @@ use crate::threads::DeclaredThread;
 use crate::write_fault::WriteFault;
 use byte_ports::Sink;
 
-/// Reads a thread from the 4 bytes at the place `at` of the file.
+/// Reads a thread from the 4 bytes at the place `at` of the file. A number below 0 or above 65535 is the fault of this field.
 #[tactic(auto, unfolding(crate::specs::Reading::thread_at))]
 fn thread_at(at: usize, bytes: &[u8]) -> Result<DeclaredThread, ImageFault>
     requires { length bytes.now ≡ 4 }
@@ -41,6 +41,7 @@ impl Entry for DeclaredThread {
 
     const SIZE: usize = 4;
 
+    /// Reads thread `n` of the list that begins at `start`. `_timed` is only of use for rows.
     fn read(
         _timed: bool,
         start: usize,
@@ -50,6 +51,7 @@ impl Entry for DeclaredThread {
         thread_at(start + 4 * usize::from(n), bytes)
     }
 
+    /// Writes the 4 bytes of the thread. Fails if the sink does.
     fn push<W: Sink>(self, sink: &mut W) -> Result<(), WriteFault> {
         sink.push(&thread_bytes(self))?;
         Ok(())

@@ -38,7 +38,7 @@ impl Threads {
         Ok(Threads { entries: threads })
     }
 
-    /// Returns the threads, by number.
+    /// Returns the threads in the order of their numbers, from 0.
     pub fn as_slice(&self) -> &[DeclaredThread]
         ensures threads { result.now ≡ self.now }
         ensures fits { length self.now ≤ 64 }

@@ -5,6 +5,7 @@ use byte_ports::Failed;
 pub struct WriteFault;
 
 impl From<Failed> for WriteFault {
+    /// Returns the fault of writing. The operator `?` calls it when the sink fails.
     fn from(_e: Failed) -> WriteFault {
         WriteFault
     }

@@ -9,7 +9,7 @@ use crate::image::{Counts, Image, MAGIC, TIMED_MAGIC};
 use crate::write_fault::WriteFault;
 use byte_ports::Sink;
 
-/// Returns how many phasers, barriers, threads and rows the image has, all within their limits.
+/// Returns how many phasers, barriers, threads and rows the image has. All fit in a `u16`, because each list has a limit.
 fn counts_of(image: &Image) -> Counts
     ensures { result ≡ counts_of image.now }
 {

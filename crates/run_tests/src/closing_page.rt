@@ -26,7 +26,7 @@ use trace_compare::Verdict;
 use trace_text::start::StartFault;
 use trace_text::state::state_text;
 
-/// Returns a thread's turn.
+/// Returns the choice of a thread's turn, which is no expiry of a wait.
 fn turn(thread: u8) -> Choice {
     Choice {
         thread,
@@ -43,7 +43,7 @@ fn met(alloc: Global, threads: &[u8]) -> Result<Machine, Fail> {
     Ok(play(alloc, image_of(alloc, MEETING)?, choices.as_slice())?)
 }
 
-/// The meeting's schedule ends both threads: each puts out 1, the phase that follows.
+/// Checks that the meeting's schedule ends both threads, and that each puts out 1, the phase that follows.
 #[test]
 fn both_threads_end(rt: HostRuntime) -> Result<(), Fail> {
     let machine = met(rt.alloc(), &[0, 1, 0, 0, 0, 1, 1])?;
@@ -53,7 +53,7 @@ t1 2 ended 0 regs 1 0 0 0 0 0 0 0 stack out 1\np0 1 2 0 2\n";
     Ok(())
 }
 
-/// There is no third thread: the choice is refused, and no later choice is played. A program without a thread has no machine.
+/// Checks that a third thread's choice is refused, with all later ones, and that without a thread there is no machine.
 #[test]
 fn what_is_refused_is_not_played(rt: HostRuntime) -> Result<(), Fail> {
     assert!(rt; met(rt.alloc(), &[0, 2, 1])?.steps() == 1);
@@ -62,8 +62,7 @@ fn what_is_refused_is_not_played(rt: HostRuntime) -> Result<(), Fail> {
     Ok(())
 }
 
-/// One thread waits. The other's arrival ends the phase, and is taken back; a refused step changes nothing. A session that keeps
-/// six choices takes back as many.
+/// Checks that steps are taken back, one, and six of a session that keeps six; and that a refused step changes nothing.
 #[test]
 fn a_meeting_is_taken_back(rt: HostRuntime) -> Result<(), Fail> {
     let alloc = rt.alloc();
@@ -83,7 +82,7 @@ fn a_meeting_is_taken_back(rt: HostRuntime) -> Result<(), Fail> {
     Ok(())
 }
 
-/// A session that keeps one choice takes back one, and no second one, though it has played two.
+/// Checks that a session that keeps one choice takes back one, and no second one, though it has played two.
 #[test]
 fn a_session_steps_on_and_back(rt: HostRuntime) -> Result<(), Fail> {
     let mut debugger = session::begin(rt.alloc(), met(rt.alloc(), &[])?, 1)?;
@@ -100,7 +99,7 @@ fn a_session_steps_on_and_back(rt: HostRuntime) -> Result<(), Fail> {
     Ok(())
 }
 
-/// One party of two leaves, and the other arrives: the phase ends. A party can register until the phaser is terminated.
+/// Checks calls in a tree: one party of two leaves, the other ends the phase, and one can register until it is terminated.
 #[test]
 fn calls_are_made_in_a_tree(rt: HostRuntime) -> Result<(), Fail> {
     let mut forest = plant(rt.alloc())?;
@@ -125,7 +124,7 @@ fn calls_are_made_in_a_tree(rt: HostRuntime) -> Result<(), Fail> {
     Ok(())
 }
 
-/// The text that has the meeting and its schedule writes the meeting's trace.
+/// Checks that the text that has the meeting and its schedule writes the meeting's trace.
 #[test]
 fn a_text_shows_its_run(rt: HostRuntime) -> Result<(), Fail> {
     let alloc = rt.alloc();
@@ -137,7 +136,7 @@ fn a_text_shows_its_run(rt: HostRuntime) -> Result<(), Fail> {
     Ok(())
 }
 
-/// The meeting's canonical text is listed, and assembled to an image that has the same canonical text.
+/// Checks that the meeting's canonical text is listed, and that its image has the same canonical text.
 #[test]
 fn its_program_is_listed(rt: HostRuntime) -> Result<(), Fail> {
     let alloc = rt.alloc();
@@ -149,7 +148,7 @@ fn its_program_is_listed(rt: HostRuntime) -> Result<(), Fail> {
     Ok(())
 }
 
-/// The meeting's trace has the verdict `Same`, since its run has that trace.
+/// Checks that the meeting's trace has the verdict `Same`, since its run has that trace.
 #[test]
 fn its_trace_is_found_the_same(rt: HostRuntime) -> Result<(), Fail> {
     let alloc = rt.alloc();
@@ -160,7 +159,7 @@ fn its_trace_is_found_the_same(rt: HostRuntime) -> Result<(), Fail> {
     Ok(())
 }
 
-/// A turn that is taken is in the record. Then the thread waits, so its next turn is refused, and not in it.
+/// Checks that a turn that is taken is in the record. Its thread waits then, so its next turn is refused, and not in it.
 #[test]
 fn a_turn_is_recorded(rt: HostRuntime) -> Result<(), Fail> {
     let mut journaled = begin(rt.alloc(), program_of(rt.alloc(), MEETING)?, 10)?;
@@ -171,8 +170,8 @@ fn a_turn_is_recorded(rt: HostRuntime) -> Result<(), Fail> {
     Ok(())
 }
 
-/// One party meets itself. A second one is registered; one of both leaves, and the other ends phase 1. In phase 2 the phaser
-/// is terminated. A wait for phase -5, which is no phase, returns -5.
+/// Checks calls on a shared phaser: one party meets itself, a second one comes, one of both leaves, and it is terminated in
+/// phase 2. A wait for phase -5, which is no phase, returns -5.
 #[test]
 fn calls_are_made_on_a_shared_phaser(rt: HostRuntime) -> Result<(), Fail> {
     let made = new(rt.alloc(), 1, Policy::Default, Phase::prevailing(0));

@@ -139,7 +139,7 @@ fn is_right(alloc: Global, case: &Case, failing: Port, call: u32) -> bool {
     is_cut(case, &came, failing) || (may_be_whole && is_whole(case, &came))
 }
 
-/// Whichever call of whichever port fails, the command reports it after a beginning of its output. No command makes 60 calls.
+/// Checks that a command reports each call of each port that fails, after a beginning of its output. None makes 60 calls.
 #[test]
 fn a_port_that_fails_at_any_call_is_reported(rt: HostRuntime) {
     for case in &CASES {
@@ -151,8 +151,8 @@ fn a_port_that_fails_at_any_call_is_reported(rt: HostRuntime) {
     }
 }
 
-/// A program whose only thread waits for a second party is played by a real thread until it is stuck. After a race of two threads
-/// that meet 1000 times, the phaser is in phase 1000.
+/// Checks `live` and `race`. A real thread that waits for a second party is played until it is stuck. After a race of two
+/// threads that meet 1000 times, the phaser is in phase 1000.
 #[test]
 fn the_commands_of_threads_are_played(rt: HostRuntime) -> Result<(), Fail> {
     let text = b".phaser p 2\n.thread a main\nmain: paaa r0 p\nhalt\n";

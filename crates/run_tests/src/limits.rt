@@ -16,7 +16,7 @@ const EXPIRY: Choice = Choice {
     expiry: true,
 };
 
-/// Returns whether exactly `taken` idle turns of thread 0 are played if `most` are asked for. It waits, so each is idle.
+/// Asks for `most` turns of a waiting thread 0, which are idle. Returns whether exactly `taken` of them were played.
 fn idles(machine: &mut Machine, most: u64, taken: u64) -> bool {
     machine.thread_count() == 2 && machine.idle(TURN, most) == taken
 }
@@ -40,7 +40,7 @@ fn machine_of(alloc: Global, text: &str, limit: u32) -> Result<Machine, Fail>
     Ok(Machine::new(alloc, program_of(alloc, text)?, limit)?)
 }
 
-/// No machine plays more than 1,000,000,000,000 choices, even if nearly all are idle.
+/// Checks that no machine plays more than 1,000,000,000,000 choices, even if nearly all are idle.
 #[test]
 fn idle_choices_end_at_the_most(rt: HostRuntime) -> Result<(), Fail> {
     let mut machine = machine_of(rt.alloc(), MEETING, 9)?;
@@ -48,7 +48,7 @@ fn idle_choices_end_at_the_most(rt: HostRuntime) -> Result<(), Fail> {
     Ok(())
 }
 
-/// At the limit of steps a turn is refused, and not counted.
+/// Checks that a turn is refused, and not counted, at the limit of steps.
 #[test]
 fn steps_end_at_the_limit(rt: HostRuntime) -> Result<(), Fail> {
     let mut machine = machine_of(rt.alloc(), ".thread a m\nm: jmp m\n", 3)?;

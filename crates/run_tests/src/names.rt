@@ -2,7 +2,7 @@
 use assembler::name_hash::NameHash;
 use std::hash::BuildHasher;
 
-/// A name has another hash in another text, here one with one more LF, so that no text can be made in which names collide.
+/// Checks that a name has another hash in another text, here one more LF: so no text can be made in which names collide.
 #[test]
 fn a_name_is_hashed_behind_its_text(rt: HostRuntime) {
     let name = b"a".as_slice();

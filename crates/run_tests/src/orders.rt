@@ -23,6 +23,7 @@ struct Script {
 }
 
 impl Script {
+    /// Returns a script in which no pass has begun.
     fn of(order: &'static str, meeting: u8) -> Script {
         Script {
             order,
@@ -53,8 +54,8 @@ impl Script {
 }
 
 impl Gate for Script {
-    /// Notes that a pass of `thread` has begun, and waits for the meeting, and until the steps before it in the script are done:
-    /// until each other thread has begun one pass more than it has steps there.
+    /// Notes that a pass of `thread` has begun, and waits for the meeting, and until the steps before it in the script are
+    /// done. That is when each other thread has begun one pass more than it has steps there.
     fn pass(&self, thread: u8, step: u32) {
         if let Some(begun) = self.begun.get(usize::from(thread)) {
             begun.store(step.saturating_add(1), Ordering::SeqCst);
@@ -114,7 +115,7 @@ static ORDERS: [(&str, &str); 8] = [
     (MEETING, "t1 t2 t0 t2 t2 t1 t1 t0"),
 ];
 
-/// Workers step in the order of the gate's script, so their record is this script.
+/// Checks that workers step in the order of the gate's script, so that their record is this script.
 #[test]
 fn workers_step_in_the_order_that_a_gate_forces(rt: HostRuntime) -> Result<(), Fail> {
     for (text, schedule) in &ORDERS {
@@ -138,7 +139,7 @@ fn crowd(alloc: Global, threads: u8) -> Result<String, AllocError> {
     Ok(text)
 }
 
-/// 64 workers begin before any goes on. Each has two steps (`paaa`, `halt`), and each but the last to arrive ends a wait: 191.
+/// Checks that 64 workers begin before any goes on. Each has two steps, and each but the last to arrive ends a wait: 191.
 #[test]
 fn sixty_four_workers_run_at_once(rt: HostRuntime) -> Result<(), Fail> {
     let text = crowd(rt.alloc(), 64)?;

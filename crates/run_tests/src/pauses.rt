@@ -48,7 +48,7 @@ impl Pausing for Notes {
     }
 }
 
-/// In two runs of four passes, the pause before each pass is the one that seed, run and step determine.
+/// Checks in two runs of four passes that the pause before each pass is the one that seed, run and step determine.
 #[test]
 fn each_run_has_pauses_of_its_own(rt: HostRuntime) -> Result<(), Fail> {
     let zeros = || [0; 8].map(AtomicU32::new);
@@ -80,7 +80,7 @@ fn each_run_has_pauses_of_its_own(rt: HostRuntime) -> Result<(), Fail> {
     Ok(())
 }
 
-/// A pause takes time: a spin of 10,000,000 rounds takes a millisecond or longer.
+/// Checks that a pause takes time: a spin of 10,000,000 rounds takes a millisecond or longer.
 #[test]
 fn a_worker_waits_at_its_pause(rt: HostRuntime) -> Result<(), Fail> {
     let began = Instant::now(&rt)?;
@@ -96,12 +96,13 @@ struct Meetings {
 }
 
 impl Pace for Meetings {
+    /// Counts a meeting.
     fn met(&self) {
         self.count.fetch_add(1, Ordering::SeqCst);
     }
 }
 
-/// Three threads that meet five times report 15 meetings.
+/// Checks that three threads that meet five times report 15 meetings.
 #[test]
 fn each_meeting_is_reported(rt: HostRuntime) -> Result<(), Fail> {
     let meetings = Meetings {

@@ -41,7 +41,7 @@ static COPIES: [(Option<u32>, Option<u32>, Option<Fault>, &[u8]); 3] = [
     (None, Some(0), Some(Fault::Write), b""),
 ];
 
-/// A copy moves what comes before the call that fails, and says which side has failed.
+/// Checks that a copy moves what comes before the call that fails, and says which side has failed.
 #[test]
 fn copies_over_memory(rt: HostRuntime) -> Result<(), Fail> {
     for (read_fails, write_fails, fault, bytes) in &COPIES {
@@ -55,7 +55,7 @@ fn copies_over_memory(rt: HostRuntime) -> Result<(), Fail> {
     Ok(())
 }
 
-/// The same copy works over a reader and a writer of the standard library.
+/// Checks that the same copy works over a reader and a writer of the standard library.
 #[test]
 fn copies_over_std(rt: HostRuntime) {
     let mut kept = Vec::new(rt.alloc());

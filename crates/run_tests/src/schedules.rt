@@ -3,7 +3,7 @@ use schedule_reader::{Reader, Run};
 use std::test::Fail;
 use thread_machine::Choice;
 
-/// Wherever a token is cut, the reader returns the same run.
+/// Checks that the reader returns the same run wherever a token is cut.
 #[test]
 fn a_token_may_be_cut_anywhere(rt: HostRuntime) -> Result<(), Fail> {
     let text = b"t12*3";

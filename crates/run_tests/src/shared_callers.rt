@@ -83,7 +83,7 @@ fn tried(phaser: &SharedPhaser, party: &mut Party, call: Call) -> Option<Reply>
     made.ok()
 }
 
-/// Returns whether each of `calls`, made one after the other, has its result and leaves its word, in one try.
+/// Returns whether each of `calls`, made one after the other in one try, has its result and leaves its word.
 fn go_on(phaser: &SharedPhaser, party: &mut Party, calls: &[(Call, Reply, u64)]) -> bool
     requires { phaser_of party.old ≡ phaser.now }
 {
@@ -96,7 +96,7 @@ fn go_on(phaser: &SharedPhaser, party: &mut Party, calls: &[(Call, Reply, u64)])
         && go_on(phaser, party, rest)
 }
 
-/// Each call of a session has its result and leaves its word.
+/// Checks that each call of a session has its result and leaves its word.
 #[test]
 fn calls_in_a_row(rt: HostRuntime) -> Result<(), Fail> {
     for (parties, phase, policy, calls) in &SESSIONS {
@@ -107,7 +107,7 @@ fn calls_in_a_row(rt: HostRuntime) -> Result<(), Fail> {
     Ok(())
 }
 
-/// A shared phaser can't have rows of a program as its `onAdvance`.
+/// Checks that a shared phaser can't have rows of a program as its `onAdvance`.
 #[test]
 fn a_routine_is_refused(rt: HostRuntime) {
     let refused = SharedPhaser::new(rt.alloc(), 1, Policy::Routine, Phase::prevailing(0));
@@ -121,7 +121,7 @@ fn made(alloc: Global, parties: u16) -> Result<(SharedPhaser, Party), NewFault>
     SharedPhaser::new(alloc, parties, Default, Phase::prevailing(0))
 }
 
-/// On a terminated phaser no call waits: each returns the view.
+/// Checks that no call waits on a terminated phaser: each returns the view.
 #[test]
 fn a_terminated_phaser_stays_so(rt: HostRuntime) -> Result<(), Fail> {
     let (phaser, mut party) = made(rt.alloc(), 2)?;
@@ -131,8 +131,8 @@ fn a_terminated_phaser_stays_so(rt: HostRuntime) -> Result<(), Fail> {
     Ok(())
 }
 
-/// The only party doesn't wait for a negative phase, for another one than the present, or after its arrival. A party that isn't
-/// registered can't arrive, so it doesn't wait either.
+/// Checks that the only party doesn't wait for a negative phase, for another one than the present, or after its arrival. A
+/// party that isn't registered can't arrive, so it doesn't wait either.
 #[test]
 fn nobody_waits_without_need(rt: HostRuntime) -> Result<(), Fail> {
     let (phaser, mut party) = made(rt.alloc(), 1)?;
@@ -145,7 +145,7 @@ fn nobody_waits_without_need(rt: HostRuntime) -> Result<(), Fail> {
     Ok(())
 }
 
-/// The first caller sees what a second one has registered.
+/// Checks that the first caller sees what a second one has registered.
 #[test]
 fn two_callers_of_one_phaser(rt: HostRuntime) -> Result<(), Fail> {
     let (phaser, mut first) = made(rt.alloc(), 1)?;
@@ -155,7 +155,7 @@ fn two_callers_of_one_phaser(rt: HostRuntime) -> Result<(), Fail> {
     Ok(())
 }
 
-/// `close` returns the packed state that the calls have left: two parties in phase 1 after two arrivals, in phase 0 after none.
+/// Checks that `close` returns the packed state: two parties in phase 1 after two arrivals, in phase 0 after none.
 #[test]
 fn closed_words(rt: HostRuntime) -> Result<(), Fail> {
     let (phaser, mut first) = made(rt.alloc(), 2)?;
@@ -169,7 +169,7 @@ fn closed_words(rt: HostRuntime) -> Result<(), Fail> {
     Ok(())
 }
 
-/// On a phaser of one party a thread waits for the end of phase 0, and another makes `call`. Returns the results of both.
+/// Has a thread wait for the end of phase 0 of one party, and another make `call`. Returns both results; None without memory.
 fn released<R: Threads + Wait + Sync>(
     rt: &R,
     alloc: Global,
@@ -194,7 +194,7 @@ static RELEASING: [(Call, Reply, i32); 3] = [
     (Force, Dead(-2147483648), -2147483648),
 ];
 
-/// A call that ends the phase or terminates the phaser releases a waiting thread, whose wait returns the view after that.
+/// Checks that a call that ends the phase or the phaser releases a waiting thread, whose wait returns the view after that.
 #[test]
 fn who_waits_is_released(rt: HostRuntime) {
     for (call, reply, told) in &RELEASING {

@@ -43,6 +43,7 @@ struct FakeReader<'a> {
 }
 
 impl Read for FakeReader<'_> {
+    /// Reads one byte, or none at the end; or fails as `calls` says.
     fn read(&mut self, buffer: &mut [u8]) -> io::Result<usize> {
         self.calls.next()?;
         if buffer.is_empty() || self.rest.is_empty() {
@@ -76,7 +77,7 @@ fn gives<R: Read>(port: &mut ReadPort<R>, succeeding: usize, bytes: &[u8; 13]) -
     is_as_wanted && given == *bytes
 }
 
-/// A port tries an interrupted read again. Once its reader has failed it fails for good, and doesn't call the reader again.
+/// Checks that a port tries an interrupted read again. Once its reader has failed, the port fails for good without calling it.
 #[test]
 fn reads_through_interruptions_and_fails_with_its_reader(rt: HostRuntime) {
     for (trouble, succeeding, bytes, made) in &READS {
@@ -103,6 +104,7 @@ struct FakeWriter {
 }
 
 impl Write for FakeWriter {
+    /// Keeps at most two of these bytes, and returns how many; or fails as `calls` says.
     fn write(&mut self, bytes: &[u8]) -> io::Result<usize> {
         self.calls.next()?;
         let count = bytes.len().min(2);
@@ -110,6 +112,7 @@ impl Write for FakeWriter {
         Ok(count)
     }
 
+    /// Counts a flush; or fails as `calls` says.
     fn flush(&mut self) -> io::Result<()> {
         self.calls.next()?;
         self.flushes = self.flushes.saturating_add(1);
@@ -141,7 +144,7 @@ fn succeeds<W: Write>(port: &mut WritePort<W>, succeeding: usize) -> bool {
         && finished == [3 < succeeding, 4 < succeeding]
 }
 
-/// A port tries an interrupted write or flush again. Once its writer has failed it fails for good, and doesn't call it again.
+/// Checks that a port tries an interrupted write or flush again. Once its writer has failed, the port fails for good.
 #[test]
 fn writes_through_interruptions_and_fails_with_its_writer(rt: HostRuntime) {
     for (trouble, succeeding, bytes, made, flushes) in &WRITES {

@@ -85,7 +85,7 @@ fn records(journaled: &mut Journaled, row: &Row) -> bool {
     journaled.schedule() == schedule.as_bytes() && journaled.ending() == ending
 }
 
-/// A record has the choices that were taken, and none that was refused.
+/// Checks that a record has the choices that were taken, and none that was refused.
 #[test]
 fn what_is_taken_is_recorded(rt: HostRuntime) -> Result<(), Fail> {
     for row in &ROWS {

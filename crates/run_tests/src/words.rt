@@ -63,7 +63,7 @@ fn is_seen(bits: u64, counts: (i32, u16, u16, u16), flags: (bool, bool, bool)) -
     }
 }
 
-/// Each word has its counts and flags. No word has more parties to arrive than there are.
+/// Checks that each word has its counts and flags, and that no word has more parties to arrive than there are.
 #[test]
 fn words_and_their_meanings(rt: HostRuntime) {
     for (bits, counts, flags) in &WORDS {
@@ -81,7 +81,7 @@ static FRESH: [(i32, u16, u64); 3] = [
     (2147483647, 65535, 0x7fffffffffffffff),
 ];
 
-/// At the beginning of a phase no party has arrived, and without parties the word is `empty`.
+/// Checks that no party has arrived at the beginning of a phase, and that without parties the word is `empty`.
 #[test]
 fn phases_begin(rt: HostRuntime) {
     for (phase, parties, bits) in &FRESH {
@@ -189,7 +189,7 @@ fn registration(registered: Registered) -> Answer {
     }
 }
 
-/// Returns what `call` returns, or `None` if its contract forbids it: ends need a turned word, `vacate` also no parties.
+/// Returns what `call` returns, or None if its contract forbids it: ends need a turned word, `vacate` also no parties.
 fn made(word: Word, call: Call) -> Option<Answer> {
     match call {
         Renew(phase) => Some(Is(word.renew(Phase::prevailing(phase)).raw())),
@@ -202,7 +202,7 @@ fn made(word: Word, call: Call) -> Option<Answer> {
     }
 }
 
-/// Each call returns the result of its row, with the bits of the word after it.
+/// Checks that each call returns the result of its row, with the bits of the word after it.
 #[test]
 fn calls_on_words(rt: HostRuntime) {
     for (number, (bits, call, wanted)) in CALLS.iter().enumerate() {

@@ -20,7 +20,7 @@ pub enum Few {
 }
 
 impl Few {
-    /// Returns what it is after a token has ended, if one has.
+    /// Returns how many runs there are with `ended`, the run of a token that has just ended, if one has.
     fn with(self, ended: Option<Run>) -> Few
         ensures { (runs : List Run) → self ≡ few_of runs → result ≡ few_of (with_ended runs ended) }
     {
@@ -52,7 +52,7 @@ pub fn few_runs(schedule: &[u8]) -> Result<Few, ScheduleFault>
     }
 }
 
-/// Returns the place after the byte at this offset, and the run whose token it ends, if it ends one.
+/// Returns the place after the byte at this offset, and the run whose token it ends. `None`: it ends no token.
 fn after_byte(place: Place, at: u64, byte: u8) -> Result<(Place, Option<Run>), ScheduleFault>
     requires { IsPlace at place }
     ensures left { (rest : List ℕ) → IsLeft result (λ next. ended_with (Ok next.1) (schedule_from true next.0 (at + 1) rest))

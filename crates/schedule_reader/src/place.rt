@@ -42,7 +42,8 @@ pub fn is_blank(byte: u8) -> bool
 }
 
 impl Place {
-    /// Returns the place after the byte at this offset, which isn't a blank, or the fault of the byte.
+    /// Returns the place after the byte at this offset, which isn't a blank, or its fault. The clauses say that the place is
+    /// that of the grammar, and inside a token, of which one byte more is read at most (`spent`).
     pub fn with_byte(self, at: u64, byte: u8) -> Result<Place, ScheduleFault>
         requires place { IsPlace at self }
         ensures reading { (part : List ℕ) → piece_from self at (byte ∷ part)
@@ -79,7 +80,7 @@ impl Place {
         }
     }
 
-    /// Returns the token that ends before this offset, or `None` between tokens. An incomplete token is a fault.
+    /// Returns the run of the token that ends before this offset, or `None` between tokens. An incomplete token is a fault.
     pub fn end(self, at: u64) -> Result<Option<Run>, ScheduleFault>
         requires place { IsPlace at self }
         ensures piece { (more : Schedule) → piece_with self at [] more ≡ ended_with result more }
@@ -154,7 +155,7 @@ fn thread_digit(
     })
 }
 
-/// Returns the place after `*`, which may follow the thread's number. Any other byte here is a fault.
+/// Returns the place after `*`, which may follow the thread's number. A fault: any other byte, or `*` with no digit before it.
 fn after_thread(
     at: u64,
     expiry: bool,
@@ -217,7 +218,7 @@ fn times_digit(
     })
 }
 
-/// Returns the token that ends with its thread's number: one choice. A number without a digit is a fault.
+/// Returns the run of a token that ends with its thread's number: one choice, never `None`. Without a digit it is a fault.
 fn end_thread(at: u64, expiry: bool, digits: u8, number: u8) -> Result<Option<Run>, ScheduleFault>
     requires digits { digits ≤ 2 }
     requires number { number ≤ 63 }
@@ -239,7 +240,7 @@ fn end_thread(at: u64, expiry: bool, digits: u8, number: u8) -> Result<Option<Ru
     }))
 }
 
-/// Returns the token that ends with its count. A count without a digit, or 0, is a fault.
+/// Returns the run of a token that ends with its count, never `None`. A count without a digit, or 0, is a fault.
 fn end_times(at: u64, choice: Choice, digits: u8, number: u32) -> Result<Option<Run>, ScheduleFault>
     requires digits { digits ≤ 10 }
     requires number { number ≤ 1000000000 }

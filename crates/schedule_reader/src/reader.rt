@@ -59,8 +59,8 @@ impl Reader {
         self.read
     }
 
-    /// Takes the stream's next bytes, and appends the runs of the tokens that they complete. It doesn't allocate if the list
-    /// has room for one run for every three bytes, and for two bytes more.
+    /// Takes the stream's next bytes, and appends the runs of the tokens that they complete. Returns the stream's first fault,
+    /// now and in each later call. It doesn't allocate if the list has room for one run per three bytes, rounded up.
     pub fn feed(&mut self, piece: &[u8], runs: &mut Vec<Run>) -> Result<(), ScheduleFault>
         requires { self.old.read + length piece.now < 9223372036854775807 }
         ensures runs { (bytes : List ℕ) → HasRead self.old bytes
@@ -98,7 +98,7 @@ impl Reader {
         }
     }
 
-    /// Ends the stream, and appends the run of its last token, unless a blank has ended it. It needs room for one run at most.
+    /// Ends the stream, and appends the run of its last token, unless a blank has ended it. Returns the stream's first fault.
     pub fn finish(self, runs: &mut Vec<Run>) -> Result<(), ScheduleFault>
         ensures runs { (bytes : List ℕ) → HasRead self bytes
             → Adds result (open_schedule bytes) (finished_schedule bytes)
@@ -119,7 +119,8 @@ impl Reader {
     }
 }
 
-/// Reads bytes that begin at this offset, from a place on. Appends the runs that they complete, and returns the next place.
+/// Reads the bytes of `piece`, of which the first has the offset `at`, from a place on. Appends the runs that they complete.
+/// Returns the next place, or the first fault.
 fn read_bytes(
     place: Place,
     at: u64,
@@ -162,8 +163,8 @@ fn bytes_from(piece: &[u8], done: usize) -> &[u8]
     &piece[done..]
 }
 
-/// Reads the first of the bytes that begin at this offset, from a place on: all single turns, each with the space after it, if
-/// the bytes begin so, and otherwise one byte. Returns the next place, and how many bytes were read.
+/// Reads the beginning of `rest`, of which the first byte has the offset `at`, from a place on: all single turns, each with its
+/// space, or else one byte. Returns the next place, and how many bytes were read. The clauses bound how many runs come of them.
 #[inline(always)]
 fn read_some(
     place: Place,
@@ -228,7 +229,7 @@ fn read_turns(rest: &[u8], runs: &mut Vec<Run>) -> usize
     rest.len() - left.len()
 }
 
-/// Returns the run of one turn of a thread.
+/// Returns the run that is a single turn of this thread.
 fn turn_of(thread: u8) -> Run
     ensures { result ≡ run_of (choice_of false thread) 1 }
 {
@@ -241,7 +242,7 @@ fn turn_of(thread: u8) -> Run
     }
 }
 
-/// Returns the thread and the number of bytes, if 4 bytes or more begin with a single turn, `t0` to `t63`, and a space.
+/// Returns the thread and the number of bytes, if 4 bytes or more begin with `t0` to `t63` and a space. `None`: they don't.
 #[inline(always)]
 fn turn_before_space(bytes: &[u8]) -> Option<(u8, usize)>
     ensures turn { IfSome result (λ turn. BeginsWithTurn bytes.now turn.0 turn.1) }

@@ -10,7 +10,7 @@ use thread_machine::Choice;
 /// The most bytes that a choice takes in a record: the space before it, its letter and two digits.
 pub const MOST_CHOICE_BYTES: usize = 4;
 
-/// Appends one choice to a text that names each of its choices separately. There is room for it.
+/// Appends one choice to a text that names each of its choices separately. The caller has made room for its 4 bytes.
 pub fn push_choice(text: &mut Vec<u8>, choice: Choice)
     requires room { vec_len text.old + 4 ≤ vec_capacity text.old }
     requires thread { choice.thread ≤ 63 }
@@ -23,7 +23,7 @@ pub fn push_choice(text: &mut Vec<u8>, choice: Choice)
     push_once(text, choice);
 }
 
-/// Appends a choice as a token, with no space before it. There is room for it.
+/// Appends a choice as a token, with no space before it. The caller has made room for its 3 bytes.
 fn push_once(text: &mut Vec<u8>, choice: Choice)
     requires room { vec_len text.old + 3 ≤ vec_capacity text.old }
     requires thread { choice.thread ≤ 63 }

@@ -18,14 +18,14 @@ pub struct Run {
 }
 
 impl Run {
-    /// Returns the run of one choice.
+    /// Returns the run in which this choice is made once.
     pub fn once(choice: Choice) -> Run
         ensures { result ≡ run_of choice 1 }
     {
         Run { choice, times: 1 }
     }
 
-    /// Returns the run with this choice once more, if it is a run of this choice and can be longer.
+    /// Returns the run with this choice once more. `None`: it is a run of another choice, or it is full.
     pub fn with(self, choice: Choice) -> Option<Run>
         requires { self.times ≤ 1000000000 }
         ensures { MatchOption result (self.choice ≡ choice → self.times ≡ 1000000000)
@@ -44,7 +44,7 @@ impl Run {
     }
 }
 
-/// Appends one choice to runs: the last run gets longer, or if it is of another choice or full, there is a new one.
+/// Appends one choice to runs: the last run gets longer, or if it is of another choice or full, a new one follows.
 pub fn push_joined(runs: &mut Vec<Run>, choice: Choice)
     requires room { vec_len runs.old < vec_capacity runs.old }
     requires thread { choice.thread ≤ 63 }

@@ -27,7 +27,7 @@ pub fn read_schedule(alloc: Global, schedule: &[u8]) -> Result<Vec<Run>, Schedul
     }
 }
 
-/// Returns whether a reader was out of memory.
+/// Returns whether `told`, the result of a reader's `feed`, is that memory was refused.
 fn is_refused(told: Result<(), ScheduleFault>) -> bool
     ensures { (result ≡ true) ↔ (told ≡ Err ScheduleFault.Memory) }
 {

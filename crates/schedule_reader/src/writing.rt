@@ -62,7 +62,7 @@ fn push_times(text: &mut String, times: u32) -> Result<(), AllocError>
     push_number(text, u64::from(times))
 }
 
-/// Appends a number in decimal digits.
+/// Appends a number in decimal digits. Fails if it is out of memory: nothing else can go wrong.
 fn push_number(text: &mut String, number: u64) -> Result<(), AllocError>
     ensures { OnOk result (string_bytes text.new ≡ string_bytes text.old ++ decimal number) }
 {

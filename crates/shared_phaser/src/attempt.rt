@@ -19,8 +19,8 @@ pub enum Attempt {
 }
 
 impl SharedPhaser {
-    /// Tries once: a load, and an exchange if the call changes the phaser. A change of the word's upper half, by a new phase
-    /// or a termination, wakes the waiters.
+    /// Tries a call once: a load, and an exchange if the call changes the phaser. If another call came between, it is `Lost`. A
+    /// new phase or a termination changes the word's upper half: this wakes the waiters.
     #[inline(always)]
     pub(crate) fn attempt<C: Asked>(&self, party: &mut Party, call: Call) -> Attempt
         requires call { C.call ≡ call }
@@ -48,6 +48,7 @@ impl SharedPhaser {
                     }
                     return Attempt::Made(answer);
                 }
+                // Does nothing: this law tells the proof that another word means another state of the phaser.
                 words_of_a_live_record_are_equal();
                 let Some(word) = Word::from_raw(shown) else {
                     unreachable!()

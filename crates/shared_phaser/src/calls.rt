@@ -48,8 +48,8 @@ impl SharedPhaser {
         }
     }
 
-    /// Tries a call that never waits, at most `tries` times. `Raced`: another call was faster each time. `last` begins as the
-    /// word of an empty phaser, which the first lost try replaces.
+    /// Tries a call that never waits, at most `tries` times. `Raced`: another call was faster each time. `last` begins as any
+    /// word, that of an empty phaser: the first lost try replaces it.
     fn within<C: Asked>(&self, party: &mut Party, call: Call, tries: u32) -> Result<Reply, Raced>
         requires call { C.call ≡ call }
         requires prompt { IsPrompt call }
@@ -75,7 +75,7 @@ impl SharedPhaser {
         }
     }
 
-    /// `register` if `parties` is 1, and otherwise `bulkRegister(parties)`. It tries at most `tries` times.
+    /// Makes the call `register`, or `bulkRegister` for other than 1 party, in at most `tries` tries. `Raced`: all were lost.
     pub fn register_within(
         &self,
         party: &mut Party,
@@ -92,7 +92,7 @@ impl SharedPhaser {
         self.within::<Brand>(party, Call::Register(parties), tries)
     }
 
-    /// `arrive`, or `arriveAndDeregister` if `leave`. It tries at most `tries` times. The last arrival ends the phase.
+    /// Makes the call `arrive`, or `arriveAndDeregister` if `leave`. The last arrival ends the phase. `Raced`: all tries lost.
     pub fn arrive_within(&self, party: &mut Party, leave: bool, tries: u32) -> Result<Reply, Raced>
         requires tries { 0 < tries }
         requires phaser { phaser_of party.old ≡ self.now }
@@ -104,7 +104,7 @@ impl SharedPhaser {
         self.within::<Brand>(party, Call::Arrive(leave), tries)
     }
 
-    /// `forceTermination`. It tries at most `tries` times. The reply is the view afterwards.
+    /// Makes the call `forceTermination`. The reply is what `getPhase` then returns. `Raced`: all `tries` tries were lost.
     pub fn force_within(&self, party: &mut Party, tries: u32) -> Result<Reply, Raced>
         requires tries { 0 < tries }
         requires phaser { phaser_of party.old ≡ self.now }

@@ -19,7 +19,8 @@ pub enum Outcome {
     Wait,
 }
 
-/// Returns a turned phaser after the end of its phase. The policy says whether it is terminated; no shared one is `Routine`.
+/// Returns the word of a phaser, all of whose parties have arrived (`turned`), after the end of its phase. The policy says
+/// whether it is then terminated. Only `Routine`, which no shared phaser has, doesn't say: the `false` is never used.
 fn phase_ended(turned: Word, policy: Policy) -> Word
     requires { (record_of turned).turned ≡ true }
     ensures { record_of result
@@ -32,7 +33,7 @@ fn phase_ended(turned: Word, policy: Policy) -> Word
     turned.advance(ends)
 }
 
-/// Returns what `register` or `bulkRegister` does to a word, which isn't turned, so none is held. 0 parties change nothing.
+/// Returns what `register` or `bulkRegister` does to a word. Its phase isn't ending, so never `Held`. 0 parties change nothing.
 fn registration(word: Word, count: u32) -> Outcome
     requires { (record_of word).turned ≡ false }
     ensures effect { effect_of result ≡ registering count (register count (record_of word)) }
@@ -95,7 +96,7 @@ fn wait(word: Word, phase: i32) -> Outcome
     }
 }
 
-/// Returns what the call does to the word. It isn't asked for `Look`, which does nothing.
+/// Returns what the call does to the word: nothing, a new word, or a wait. Nobody calls it for `Look`, which changes nothing.
 #[inline(always)]
 pub fn outcome_at(word: Word, call: Call, policy: Policy) -> Outcome
     requires unturned { (record_of word).turned ≡ false }

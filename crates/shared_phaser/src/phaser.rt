@@ -68,7 +68,7 @@ pub enum NewFault {
 }
 
 impl SharedPhaser {
-    /// Makes a phaser with so many parties in this phase, and its first caller. `Routine` is refused. Only this allocates.
+    /// Makes a phaser in this phase, with this many parties, and its first caller. `Routine` is refused. Only this allocates.
     pub fn new(
         alloc: Global,
         parties: u16,
@@ -127,6 +127,7 @@ impl SharedPhaser {
         let table = &*self.table;
         let Party { seat } = other;
         table.shared.join_seat::<Both>(&mut first.seat, seat);
+        // The loaded word isn't used: by the load, the first caller sees what the other one had seen.
         table.shared.load::<Watch>(&mut first.seat, 0);
     }
 

@@ -57,7 +57,7 @@ fn rest_among(few: bool) {
 }
 
 impl SharedPhaser {
-    /// If `sleeps`, announces a wait before the try that decides on it. So no end of a phase after that try is missed.
+    /// Announces a wait if `sleeps`, or else returns `None`. It comes before the try, so no later end of a phase is missed.
     #[inline(always)]
     fn announced(&self, sleeps: bool) -> Option<Key<'_>> {
         if sleeps {
@@ -135,7 +135,7 @@ impl SharedPhaser {
         reply_of(call, self.insist::<C, R>(rt, party, call))
     }
 
-    /// `register` if `parties` is 1, and otherwise `bulkRegister(parties)`.
+    /// Makes the call `register` if `parties` is 1, and otherwise `bulkRegister(parties)`. It tries until it has a reply.
     pub fn register<R: Wait>(&self, rt: &R, party: &mut Party, parties: u32) -> Reply
         requires { phaser_of party.old ≡ self.now }
         ensures phaser { phaser_of party.new ≡ self.now }
@@ -145,7 +145,7 @@ impl SharedPhaser {
         self.insist_promptly::<Brand, R>(rt, party, Call::Register(parties))
     }
 
-    /// `arrive`. The last arrival of a phase ends it in the same step.
+    /// Makes the call `arrive`. The last arrival of a phase ends it in the same step.
     pub fn arrive<R: Wait>(&self, rt: &R, party: &mut Party) -> Reply
         requires { phaser_of party.old ≡ self.now }
         ensures phaser { phaser_of party.new ≡ self.now }
@@ -154,7 +154,7 @@ impl SharedPhaser {
         self.insist_promptly::<Brand, R>(rt, party, Call::Arrive(false))
     }
 
-    /// `arriveAndDeregister`. The last arrival of a phase ends it in the same step.
+    /// Makes the call `arriveAndDeregister`. The last arrival of a phase ends it in the same step.
     pub fn arrive_and_deregister<R: Wait>(&self, rt: &R, party: &mut Party) -> Reply
         requires { phaser_of party.old ≡ self.now }
         ensures phaser { phaser_of party.new ≡ self.now }
@@ -163,7 +163,7 @@ impl SharedPhaser {
         self.insist_promptly::<Brand, R>(rt, party, Call::Arrive(true))
     }
 
-    /// `forceTermination`. The reply is the view after it.
+    /// Makes the call `forceTermination`. The reply has what `getPhase` returns after it.
     pub fn force<R: Wait>(&self, rt: &R, party: &mut Party) -> Reply
         requires { phaser_of party.old ≡ self.now }
         ensures phaser { phaser_of party.new ≡ self.now }
@@ -172,7 +172,7 @@ impl SharedPhaser {
         self.insist_promptly::<Brand, R>(rt, party, Call::Force)
     }
 
-    /// Waits until the phaser isn't in this phase, or is terminated. Returns its view then.
+    /// Waits until the phaser isn't in this phase, or is terminated. Returns the view then, as `getPhase` does.
     #[inline(always)]
     fn pass<R: Wait>(&self, rt: &R, party: &mut Party, phase: i32) -> i32
         requires { phaser_of party.old ≡ self.now }
@@ -185,7 +185,7 @@ impl SharedPhaser {
         }
     }
 
-    /// `awaitAdvance(phase)`: waits until the phaser isn't in this phase. Returns its view, or `phase` if that is negative.
+    /// Waits as `awaitAdvance` does, until the phaser isn't in this phase. Returns the view then, or `phase` if it is negative.
     pub fn await_advance<R: Wait>(&self, rt: &R, party: &mut Party, phase: i32) -> i32
         requires { phaser_of party.old ≡ self.now }
         ensures phaser { phaser_of party.new ≡ self.now }
@@ -199,7 +199,7 @@ impl SharedPhaser {
         self.pass(rt, party, phase)
     }
 
-    /// `arriveAndAwaitAdvance`: arrives, and waits for the end of the phase if the arrival was counted. Returns the view.
+    /// Arrives, and waits for the end of the phase if the arrival counts: `arriveAndAwaitAdvance`. Returns the view then.
     pub fn arrive_and_await_advance<R: Wait>(
         &self,
         rt: &R,

@@ -26,7 +26,7 @@ pub fn is_whole_program(bytes: &[u8]) -> bool {
         .any(|line| line.trim_ascii_start().starts_with(b".thread"))
 }
 
-/// Whether bytes are UTF-16: they begin with a byte order mark, or with two ASCII letters of two bytes.
+/// Returns whether bytes are UTF-16: they begin with a byte order mark, or with two ASCII letters of two bytes.
 fn is_utf_16(bytes: &[u8]) -> bool {
     match bytes {
         [0xff, 0xfe, ..] | [0xfe, 0xff, ..] => true,

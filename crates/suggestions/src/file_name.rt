@@ -8,12 +8,12 @@ use strsim::osa_distance;
 /// In how many letters two names differ at least if they aren't near.
 const FAR: usize = 3;
 
-/// The name up to its last dot, or the whole name if it has none.
+/// Returns the name up to its last dot, or the whole name if it has none.
 fn stem_of(name: &str) -> &str {
     name.rsplit_once('.').map_or(name, |(stem, _)| stem)
 }
 
-/// Returns whether a name ends as those of programs, texts or images, do.
+/// Returns whether a file's name ends as a program's does: `.asm`, `.txt`, `.image` or `.img`.
 pub fn is_of_program(name: &str) -> bool {
     name.ends_with(".asm")
         || name.ends_with(".txt")
@@ -31,7 +31,7 @@ struct Nearest {
 }
 
 impl Nearest {
-    /// Takes `given` if it is nearer to `name` than the one so far, or as near and before that in alphabetical order.
+    /// Keeps `given` if it is nearer to `name` than the name kept so far, or as near and before that in alphabetical order.
     fn take(&mut self, alloc: Global, given: &str, name: &str) -> Result<(), AllocError> {
         let of_stem = osa_distance(alloc, stem_of(given), stem_of(name))?;
         let letters = osa_distance(alloc, given, name)?;
@@ -53,7 +53,7 @@ impl Nearest {
         Ok(())
     }
 
-    /// Takes the nearest to `name` of a folder's entries. None if they can't be read, or there is no memory.
+    /// Keeps the nearest to `name` of a folder's entries. Returns None if they can't be read, or there is no memory.
     fn take_entries(&mut self, alloc: Global, entries: ReadDir, name: &str) -> Option<()> {
         for entry in entries {
             self.take(alloc, entry.ok()?.file_name(), name).ok()?;

@@ -4,7 +4,7 @@ use crate::hint::{Hint, help};
 use refusals::word::word_entry;
 use std::alloc::{AllocError, Global};
 
-/// What the letter of an operand in a form stands for, and an example: REGISTER and `r0` for `a`.
+/// Returns what the letter of an operand in a form stands for, and an example: REGISTER and `r0` for `a`. None for other words.
 fn operand(letter: &str) -> Option<(&'static str, &'static str)> {
     match letter {
         "a" => Some(("REGISTER", "r0")),
@@ -20,7 +20,7 @@ fn operand(letter: &str) -> Option<(&'static str, &'static str)> {
     }
 }
 
-/// Appends the words of a form such as `ldi a n`: each letter as what it stands for, or as an example.
+/// Appends the words of a form such as `ldi a n`, with `REGISTER` in place of the letter `a`, or `r0` if `is_example`.
 fn push_each(text: &mut Vec<u8>, form: &str, is_example: bool) -> Result<(), AllocError> {
     for word in form.split_ascii_whitespace() {
         match operand(word) {

@@ -8,7 +8,7 @@ const MOST_NAMES: usize = 8;
 /// The line of what helps, or of what may have been meant, if there is something and there was memory for it.
 pub type Hint = Result<Option<Vec<u8>>, AllocError>;
 
-/// The line that has this word before a text.
+/// Returns the line that has this word before a text. It is never None: the callers return a `Hint`, too.
 fn hint(alloc: Global, word: &[u8], text: &[u8]) -> Hint {
     let mut line = Vec::from_slice(alloc, word)?;
     line.extend_from_slice(text)?;
@@ -20,7 +20,7 @@ pub fn help(alloc: Global, text: &[u8]) -> Hint {
     hint(alloc, b"help: ", text)
 }
 
-/// Returns the line `help: TEXT`, or no line without a text.
+/// Returns the line `help: TEXT`, or None without a text.
 pub fn help_if_any(alloc: Global, text: Option<&str>) -> Hint {
     text.map_or(Ok(None), |text| help(alloc, text.as_bytes()))
 }

@@ -66,7 +66,7 @@ public private static class void import package { }: no classes and no braces: o
 ++ -- += -= inc dec mul div: `add r0 r1 r2` and `sub r0 r1 r2` are all arithmetic; `ldi r1 1` puts 1 into r1
 ";
 
-/// Returns what a table has beside this word, in large or small letters: each line has several words, a colon, and a text.
+/// Returns the text of the table's line `WORD WORD: TEXT` that lists this word, in any letter case. None if no line does.
 pub fn found_in(table: &'static str, word: &[u8]) -> Option<&'static str> {
     table
         .split('\n')
@@ -86,13 +86,14 @@ pub fn method_in(word: &[u8]) -> &[u8] {
     at.map_or(call, |at| call.get(at.saturating_add(1)..).unwrap_or(call))
 }
 
-/// Whether a call has an argument, as far as the word goes, which ends at a blank: `await(5,` but not `await()`.
+/// Returns whether the call that a word begins has an argument: `await(5,` has one, and `await()` has none.
 fn has_argument(word: &[u8]) -> bool {
     let behind = word.get(length_before(b'(', word).saturating_add(1)..);
     matches!(behind, Some([first, ..]) if *first != b')')
 }
 
-/// Returns the row or directive for the method that a word calls. `await` and `awaitAdvanceInterruptibly` may have a time.
+/// Returns the row or directive for the method of Java that a word calls. None if it calls none. `await` and
+/// `awaitAdvanceInterruptibly` may have a time.
 pub fn row_of(word: &[u8]) -> Option<&'static str> {
     match found_in(METHODS, method_in(word))? {
         "cawait" if has_argument(word) => Some("cawaitt"),
@@ -101,7 +102,7 @@ pub fn row_of(word: &[u8]) -> Option<&'static str> {
     }
 }
 
-/// Returns what helps at a word of Java that has no row of its own, such as `while`, `new` or `x++`.
+/// Returns what the language has in place of a word of Java without a row, as `while`, `new` or `x++`. None for others.
 pub fn in_place_of(word: &[u8]) -> Option<&'static str> {
     if word.ends_with(b"++") || word.ends_with(b"--") {
         found_in(JAVA, b"++")

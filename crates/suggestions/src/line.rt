@@ -16,7 +16,7 @@ pub fn words_of(alloc: Global, line: &[u8]) -> Result<Vec<&[u8]>, AllocError> {
     Ok(words)
 }
 
-/// Returns the word of this number, from 0, of a line up to its comment.
+/// Returns the word of this number, from 0, of a line up to its comment. None if the line has fewer words.
 pub fn word(line: &[u8], number: usize) -> Option<&[u8]> {
     before_comment(line)
         .split(|byte| is_blank(*byte))
@@ -33,7 +33,7 @@ pub fn first_word(line: &[u8]) -> &[u8] {
     }
 }
 
-/// Returns the bytes of a part of a line, or none if the line ends before it.
+/// Returns the bytes of a part of a line. They are empty if the line ends before the end of that part.
 pub fn word_at(line: &[u8], part: WordPlace) -> &[u8] {
     line.get(part.at..part.at.saturating_add(part.length))
         .unwrap_or(&[])

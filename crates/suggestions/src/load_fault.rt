@@ -11,7 +11,8 @@ use loader::{LoadFault, Place};
 use row_code::is_image_file;
 use std::alloc::Global;
 
-/// Returns what a line without its comment says behind its label, without the blanks round it.
+/// Returns where a row or directive is in a line, without the blanks round it. None if nothing follows the label, which ends at
+/// offset `behind_label`. The line has no comment.
 fn statement(line: &[u8], behind_label: usize) -> Option<WordPlace> {
     let said = line.get(behind_label..)?;
     let at = said.iter().position(|byte| !is_blank(*byte))?;
@@ -22,7 +23,7 @@ fn statement(line: &[u8], behind_label: usize) -> Option<WordPlace> {
     })
 }
 
-/// The number of the last line of a text with an instruction, from 1, or 0 if it has none.
+/// Returns the number of the last line of a text with an instruction, from 1, or 0 if it has none.
 fn last_line_with_row(text: &[u8]) -> u64 {
     let mut last: u64 = 0;
     let mut number: u64 = 0;
@@ -35,7 +36,7 @@ fn last_line_with_row(text: &[u8]) -> u64 {
     last
 }
 
-/// The row, as the target of a label, or the declared thing that a load fault is about, by its kind and number.
+/// Returns the kind and number of what a load fault is about: a declared thing, or a row, as `Target`. None if nothing is.
 fn made_in(fault: LoadFault) -> Option<(OperandKind, u64)> {
     match fault {
         LoadFault::Target(Place::Row(row))
@@ -56,8 +57,7 @@ fn made_in(fault: LoadFault) -> Option<(OperandKind, u64)> {
     }
 }
 
-/// The place of a line's row or directive with its operands, without label, comment and outer blanks: the line's number, from 1, and the
-/// part of it.
+/// Returns a line's number, from 1, and where its row or directive is. None if the text has no such line.
 fn place_of_statement(text: &[u8], number: u64) -> Option<(u64, Option<WordPlace>)> {
     let line = before_comment(line_at(text, number)?);
     let colon = line.iter().position(|byte| *byte == b':');
@@ -65,7 +65,7 @@ fn place_of_statement(text: &[u8], number: u64) -> Option<(u64, Option<WordPlace
     Some((number, statement(line, label)))
 }
 
-/// Returns the line's number and the part of it that a load fault is about: a row or a declaration. None in an image.
+/// Returns the line's number and the part of it that a load fault is about. None in an image, or if it is about no line.
 pub fn place_of_load(
     alloc: Global,
     text: &[u8],
@@ -81,8 +81,8 @@ pub fn place_of_load(
     place_of_statement(text, line_that_makes(alloc, text, kind, number)?)
 }
 
-/// Returns the line that helps if a program isn't loaded, if that is more than the entry of its fault says: its file, `bytes`, may have
-/// its threads below the line `.run`, where `text` ends, or be empty.
+/// Returns advice for a program that can't be loaded. `bytes` is its file, and `text` the part above a line `.run`. None unless
+/// the `.thread` lines are below `.run`, or the file is empty: for all else the entry of the fault says enough.
 pub fn hint_at_load(alloc: Global, bytes: &[u8], text: &[u8], fault: LoadFault) -> Hint {
     let behind = bytes.get(text.len()..).unwrap_or(&[]);
     if fault == LoadFault::NoThread && is_whole_program(behind) {

@@ -21,17 +21,17 @@ const AT_COLON: &str = "a label has a colon only in its own line: `.thread ann m
 
 const AT_EQUALS: &str = "no `=`: as in `.phaser p 2` and `ldi r0 5`";
 
-/// Whether one of these words has this byte.
+/// Returns whether one of these words contains this byte.
 fn have(words: &[&[u8]], byte: u8) -> bool {
     words.iter().any(|word| word.contains(&byte))
 }
 
-/// Whether a word begins a comment of other languages, and isn't an operand such as `#0`.
+/// Returns whether a word begins a comment of other languages, and isn't an operand such as `#0`.
 fn begins_other_comment(word: &[u8]) -> bool {
     has_comment_sign(word) && !matches!(word, [b'#', b'0'..=b'9', ..])
 }
 
-/// Whether a word has digits and `-` alone, and isn't empty.
+/// Returns whether a word has digits and `-` alone, and isn't empty.
 fn is_number(word: &[u8]) -> bool {
     !word.is_empty()
         && word
@@ -39,12 +39,12 @@ fn is_number(word: &[u8]) -> bool {
             .all(|byte| byte.is_ascii_digit() || *byte == b'-')
 }
 
-/// Whether a row or a directive begins with this word.
+/// Returns whether a row or a directive begins with this word.
 fn is_word_of_the_language(word: &[u8]) -> bool {
     shape_of(word).is_some() || is_directive(word)
 }
 
-/// Whether a line of a text has this word, but not as its first.
+/// Returns whether a line of a text has this word, but not as its first. So it may be a label that lacks its colon.
 fn is_operand(text: &[u8], word: &[u8]) -> bool {
     text.split(|byte| *byte == b'\n').any(|line| {
         word_in(line, 0) != Some(word)
@@ -54,13 +54,13 @@ fn is_operand(text: &[u8], word: &[u8]) -> bool {
     })
 }
 
-/// Whether a line of a text has this directive with this name.
+/// Returns whether a line of a text has this directive with this name.
 fn declares(text: &[u8], directive: &[u8], name: &[u8]) -> bool {
     text.split(|byte| *byte == b'\n').any(|line| word_in(line, 0) == Some(directive)
         && word_in(line, 1) == Some(name))
 }
 
-/// Whether a line of a text begins with the label of this name.
+/// Returns whether a line of a text begins with the label of this name.
 fn has_label(text: &[u8], name: &[u8]) -> bool {
     text.split(|byte| *byte == b'\n').any(|line| match word_in(line, 0) {
         Some(label) => is_label(label) && before_last(label) == name,
@@ -68,7 +68,7 @@ fn has_label(text: &[u8], name: &[u8]) -> bool {
     })
 }
 
-/// The word after the word `=`, if a line has one: `5` of `r0 = 5`.
+/// Returns the word after the word `=`: `5` of `r0 = 5`. None if a line has none.
 fn word_assigned<'a>(words: &[&'a [u8]]) -> Option<&'a [u8]> {
     words
         .iter()
@@ -77,8 +77,8 @@ fn word_assigned<'a>(words: &[&'a [u8]]) -> Option<&'a [u8]> {
         .copied()
 }
 
-/// Returns the row that a line of Java means: that of the method whose result it assigns (`r = p.arrive()`) or that the word
-/// calls, or the row that the word writes as a call (`parr(r0)`).
+/// Returns the row that a line of Java means: of the method whose result it assigns (`r = p.arrive()`), or that the word calls;
+/// or the row that the word writes as a call (`parr(r0)`). None if it means no row.
 pub fn row_meant(alloc: Global, line: &[u8], word: &[u8]) -> Option<&'static str> {
     if let Some(assigned) = word_assigned(words_of(alloc, line).ok()?.as_slice()) {
         return row_of(assigned);
@@ -90,7 +90,7 @@ pub fn row_meant(alloc: Global, line: &[u8], word: &[u8]) -> Option<&'static str
     }
 }
 
-/// What the language has in place of what a line makes or changes, as in `p = new Phaser(2)` and `r0 += 1`.
+/// Returns what the language has in place of a line that makes or changes a thing, as `p = new Phaser(2)`, or None.
 fn in_place_of_made(words: &[&[u8]]) -> Option<&'static str> {
     words
         .iter()
@@ -102,7 +102,8 @@ fn in_place_of_made(words: &[&[u8]]) -> Option<&'static str> {
         .next()
 }
 
-/// Returns what helps if a line is one of Java's. None if it assigns the result of a method: the form of that row helps.
+/// Returns advice if a line is one of Java's, and None for other lines. None, too, if it assigns the result of a method: then a
+/// caller shows the form of that method's row.
 fn helps_at_java_line(words: &[&[u8]], word: &[u8]) -> Option<&'static str> {
     let assigned = word_assigned(words);
     if assigned.is_some_and(|assigned| row_of(assigned).is_some()) {
@@ -118,7 +119,7 @@ fn helps_at_java_line(words: &[&[u8]], word: &[u8]) -> Option<&'static str> {
     }
 }
 
-/// Returns what helps at the word in the place of a row's or a directive's, if it is none. `words` are those of its line.
+/// Returns advice for an unknown word of these words of a line, where a row or directive should be. None if none is known.
 fn helps_at_word(alloc: Global, text: &[u8], words: &[&[u8]], word: &[u8]) -> Option<&'static str> {
     let behind = match words {
         [first, second, ..] if *first == word => *second,
@@ -143,7 +144,7 @@ fn helps_at_word(alloc: Global, text: &[u8], words: &[&[u8]], word: &[u8]) -> Op
     }
 }
 
-/// What helps at a comma or a quotation mark in a word of a line; `first` is its row's or directive's word.
+/// Returns advice for a comma or a quotation mark in a word, and None without. `first` is its line's row or directive.
 fn helps_at_sign(first: &[u8], word: &[u8]) -> Option<&'static str> {
     helps! {
         word.ends_with(b",") && first == b".thread".as_slice() => AT_THREAD,
@@ -153,18 +154,18 @@ fn helps_at_sign(first: &[u8], word: &[u8]) -> Option<&'static str> {
     }
 }
 
-/// Whether a line of a text has an instruction.
+/// Returns whether a line of a text has an instruction.
 fn has_row(text: &[u8]) -> bool {
     text.split(|byte| *byte == b'\n')
         .any(|line| shape_of(first_word(line)).is_some())
 }
 
-/// What helps if one of these words has a `=`.
+/// Returns advice if one of these words has a `=`, and None if none has.
 fn helps_at_equals(words: &[&[u8]]) -> Option<&'static str> {
     have(words, b'=').then_some(AT_EQUALS)
 }
 
-/// What helps if a line has too few or too many operands; `first` is its row's or directive's word.
+/// Returns advice for too few or too many operands of the row or directive `first`. None if its form says enough.
 fn helps_at_count(first: &[u8], words: &[&[u8]]) -> Option<&'static str> {
     helps! {
         first == b".thread".as_slice() && have(words, b':') => AT_COLON,
@@ -178,7 +179,7 @@ fn helps_at_count(first: &[u8], words: &[&[u8]]) -> Option<&'static str> {
     }
 }
 
-/// Whether a word is written nearly as a register: `r8`, `R0`, `r12`.
+/// Returns whether a word is written nearly as a register: `r8`, `R0`, `r12`.
 fn is_like_register(word: &[u8]) -> bool {
     match word {
         [b'r' | b'R', digits @ ..] => !digits.is_empty()
@@ -187,14 +188,14 @@ fn is_like_register(word: &[u8]) -> bool {
     }
 }
 
-/// Whether a word stands behind this one in a line.
+/// Returns whether `word` comes directly after the word `before` in a line.
 fn is_behind(words: &[&[u8]], before: &[u8], word: &[u8]) -> bool {
     words.windows(2).any(
         |pair| matches!(pair, [first, second] if *first == before && *second == word),
     )
 }
 
-/// What helps at a number that is out of range: the range. `first` is the row's or directive's word of its line.
+/// Returns which range is allowed for a number that is out of range. `first` is the row's or directive's word of its line.
 fn helps_at_range(first: &[u8], words: &[&[u8]], word: &[u8]) -> &'static str {
     if is_behind(words, b"parent", word) {
         "a parent is a phaser above, #0 to #63"
@@ -213,7 +214,7 @@ fn helps_at_range(first: &[u8], words: &[&[u8]], word: &[u8]) -> &'static str {
     }
 }
 
-/// What helps at a word that is no register: it is a cell or a number, or the line has a `=`.
+/// Returns advice for a word that is no register: it is a cell or a number, or the line has a `=`. None for other words.
 fn helps_at_register(text: &[u8], words: &[&[u8]], word: &[u8]) -> Option<&'static str> {
     helps! {
         declares(text, b".cell", word) => "`lds r0 c` reads the cell c into r0, and `sts r0 c` writes r0 to it",
@@ -224,7 +225,7 @@ fn helps_at_register(text: &[u8], words: &[&[u8]], word: &[u8]) -> Option<&'stat
     }
 }
 
-/// What helps at a word that can't be a name: a brace, a label with its colon, a number, or other signs.
+/// Returns advice for a word that can't be a name: a brace, a label with its colon or a number. None if no rule fits.
 fn helps_at_no_name(words: &[&[u8]], word: &[u8]) -> Option<&'static str> {
     let is_in_place_of_name = match words {
         [first, name, ..] => is_directive(*first) && *name == word,
@@ -240,7 +241,7 @@ fn helps_at_no_name(words: &[&[u8]], word: &[u8]) -> Option<&'static str> {
     }
 }
 
-/// What helps at a fault of this kind at `word`; `first` is the row's or directive's word of its line.
+/// Returns advice for a fault of this kind at `word`; `first` is the row or directive of its line. None if none is known.
 fn helps_at_kind(
     text: &[u8],
     kind: AsmFaultKind,
@@ -276,7 +277,7 @@ fn helps_at_kind(
     }
 }
 
-/// Returns what helps at the wrong `word` of `line`, which is that of this number in `text`. None if its entry says enough.
+/// Returns advice for the wrong `word` in line `number` of `text`. None if the entry of the fault says enough.
 pub fn helps_at(
     alloc: Global,
     text: &[u8],

@@ -12,7 +12,7 @@ use refusals::table::row::row_entry;
 use refusals::word::word_entry;
 use std::alloc::{AllocError, Global};
 
-/// Returns a thing of this kind with its article, as `a cell`, and a line of a program that gives one its name or has one.
+/// Returns what a thing of this kind is called, as `a cell`, and an example of a program's line that has one.
 pub fn called(kind: OperandKind) -> (&'static str, &'static str) {
     match kind {
         OperandKind::Target => ("a label", "main: halt"),
@@ -25,7 +25,7 @@ pub fn called(kind: OperandKind) -> (&'static str, &'static str) {
     }
 }
 
-/// Returns the letter that stands for a thing of this kind in the state, before its number.
+/// Returns the letter that stands for a thing of this kind in the state, before its number. None if the state has no such.
 pub fn letter_of(kind: OperandKind) -> Option<&'static str> {
     match kind {
         OperandKind::Thread => Some("t"),
@@ -36,7 +36,7 @@ pub fn letter_of(kind: OperandKind) -> Option<&'static str> {
     }
 }
 
-/// The name that a line gives, if it gives one, and the kind of what has it: its label's, or that of what it declares.
+/// Returns the name that a line gives, of its label or of what it declares, and the kind of thing. None if it gives none.
 fn name_given(line: &[u8]) -> Option<(&[u8], OperandKind)> {
     let kind = match word(line, 0)? {
         label if is_label(label) => return Some((before_last(label), OperandKind::Target)),
@@ -49,7 +49,7 @@ fn name_given(line: &[u8]) -> Option<(&[u8], OperandKind)> {
     Some((word(line, 1)?, kind))
 }
 
-/// Returns the names that a text gives to things of this kind, or without a kind to all that have a line in the state.
+/// Returns the names that a text gives to things of this kind. Without a kind: all names of things that the state shows.
 pub fn names_in(
     alloc: Global,
     text: &[u8],
@@ -66,7 +66,7 @@ pub fn names_in(
     Ok(names)
 }
 
-/// Returns the number of the first line that gives this name, from 1.
+/// Returns the number, from 1, of the first line that gives this name. None if no line does.
 pub fn first_line(text: &[u8], name: &[u8]) -> Option<u64> {
     let before = text.split(|byte| *byte == b'\n').position(|line| name_given(line).is_some_and(|(
         given,
@@ -78,7 +78,7 @@ pub fn first_line(text: &[u8], name: &[u8]) -> Option<u64> {
 /// How many letters a method's name has at least that may be misspelt.
 const LEAST: usize = 5;
 
-/// Returns the row of a method of Java behind the first letter of its rows: `parr` for `parrive`.
+/// Returns the row for a method of Java behind a row's first letter: `parr` for `parrive`. None for other words.
 fn row_of_method_behind(word: &[u8]) -> Option<&'static str> {
     match word {
         [b'p' | b'c' | b'b', method @ ..] if method.len() >= LEAST => row_of(method),
@@ -86,7 +86,7 @@ fn row_of_method_behind(word: &[u8]) -> Option<&'static str> {
     }
 }
 
-/// Returns the row's or directive's word that is nearest to this one, or the row for the method of Java that is.
+/// Returns the word of a row or directive that is nearest to this one, or the row for the nearest method of Java.
 pub fn nearest_word(alloc: Global, word: &[u8]) -> Result<Nearest<'static>, AllocError> {
     if let Some(row) = row_of_method_behind(word) {
         return Ok(Nearest {
@@ -115,8 +115,8 @@ pub fn nearest_word(alloc: Global, word: &[u8]) -> Result<Nearest<'static>, Allo
     Ok(nearest)
 }
 
-/// Returns the word that is nearest to this one, of those that `explain` knows. A word of up to three letters, as `foo`, is near
-/// only to one of the language: of the others one differs from nearly each in a single letter.
+/// Returns the nearest to this word of all words that `explain` knows. For a word of up to three letters only words of the
+/// language count: nearly each other short word differs from it in one letter.
 pub fn nearest_question(alloc: Global, word: &[u8]) -> Result<Nearest<'static>, AllocError> {
     let mut nearest = nearest_word(alloc, word)?;
     if word.len() <= SHORT {
@@ -134,7 +134,7 @@ pub fn nearest_question(alloc: Global, word: &[u8]) -> Result<Nearest<'static>, 
     Ok(nearest)
 }
 
-/// The form of a directive, as `.barrier NAME PARTIES [action L]`.
+/// Returns the form of a directive, as `.barrier NAME PARTIES [action L]`.
 fn form_of(directive: &str) -> &'static [u8] {
     word_entry(directive).map_or(b"", |entry| entry.form.as_bytes())
 }
@@ -147,7 +147,8 @@ pub fn has_option(directive: &str, word: &[u8]) -> bool {
             .any(|option| option == word)
 }
 
-/// Returns the option of a directive that is near to this word. `action` and `onadvance` mean each other where one isn't allowed.
+/// Returns the option of a directive that is near to this word. None if none is near, or if the word is one. `action` counts as
+/// near to `onadvance` where only one of them is allowed.
 pub fn nearest_option(
     alloc: Global,
     directive: &str,

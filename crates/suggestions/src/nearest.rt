@@ -8,8 +8,8 @@ use strsim::osa_distance;
 /// In how many letters two names differ at least if neither is near to the other.
 const FAR: usize = 3;
 
-/// In how many letters two names differ that are changed, left out, added, or have changed places. Large and small letters are
-/// the same. Bytes that are no UTF-8 are as far as can be, and so is a name that is longer or shorter by as much as none near is.
+/// Returns how many letters of two names differ: changed, left out, added, or swapped with a neighbour. Large and small letters
+/// count as equal. Returns `usize::MAX` if a name isn't UTF-8, or if the lengths differ by `FAR` or more.
 fn distance(alloc: Global, a: &[u8], b: &[u8]) -> Result<usize, AllocError> {
     if a.len().abs_diff(b.len()) >= FAR {
         return Ok(usize::MAX);
@@ -30,7 +30,8 @@ pub struct Nearest<'a> {
 }
 
 impl<'a> Nearest<'a> {
-    /// None so far. Near is a name with fewer than `far` wrong letters: at most one in two to four, two in more.
+    /// Begins a search for the name nearest to a word: none is found yet. A name is near if fewer than `far` letters are wrong:
+    /// one at most in two to four letters, two in more.
     pub fn to(word: &[u8]) -> Nearest<'a> {
         Nearest {
             meant: None,
@@ -38,7 +39,7 @@ impl<'a> Nearest<'a> {
         }
     }
 
-    /// Returns what a name means if it is nearer to a word than the one before, or else that. Of names as near the first counts.
+    /// Returns `meant`, which `name` stands for, if `name` is nearer to the word than any name so far. Else returns `self`.
     pub fn or(
         self,
         alloc: Global,
@@ -64,7 +65,8 @@ impl<'a> Nearest<'a> {
 /// How many letters a word has at most that is near only to a name that no other is as near as.
 pub const SHORT: usize = 3;
 
-/// Returns the nearest of these names. For a word of up to three letters there is none if two are as near.
+/// Returns the nearest of these names; its `meant` is None if no name is near. For a word of up to three letters it is None,
+/// too, if two names are equally near.
 pub fn nearest_of<'a>(
     alloc: Global,
     names: &[&'a [u8]],

@@ -13,7 +13,8 @@ use std::alloc::{AllocError, Global};
 /// How many parentheses may be open at once.
 const DEEPEST: usize = 16;
 
-/// Returns the word that makes a fault of a plan. For a `(` that isn't closed, it is the last one outside of others.
+/// Returns where the word is that makes a fault of a plan. For a `(` that isn't closed, it is the last one that isn't inside
+/// others. None if no word makes it.
 pub fn place_in_plan(
     alloc: Global,
     plan: &[u8],
@@ -50,7 +51,7 @@ pub fn place_in_plan(
     Ok(opened)
 }
 
-/// What helps if a plan's text isn't one: it is a trace, a program, or no ASCII.
+/// Returns advice if a plan's text isn't a plan: it is a trace, a program, or no ASCII. None if it may be one.
 fn helps_at_text(plan: &[u8]) -> Option<&'static str> {
     if is_trace(plan) {
         Some("this is a trace: `vuthgal choices TRACE | vuthgal run FILE -` plays its choices")
@@ -61,7 +62,7 @@ fn helps_at_text(plan: &[u8]) -> Option<&'static str> {
     }
 }
 
-/// What helps at a name that no thread has: the nearest choice, or the names that there are.
+/// Returns advice for a name that no thread has: the nearest choice, or the names that there are.
 fn hint_at_name(alloc: Global, names: &[&[u8]], word: &[u8]) -> Hint {
     match near_choice(alloc, names, word)? {
         Some(choice) => near(alloc, choice.as_slice()),
@@ -69,7 +70,7 @@ fn hint_at_name(alloc: Global, names: &[&[u8]], word: &[u8]) -> Hint {
     }
 }
 
-/// Returns the line that helps at a fault of a plan for threads of these names. `part` is the word that makes the fault.
+/// Returns the line of advice for a fault of a plan for threads of these names. `part` is where the wrong word is.
 pub fn hint_in_plan(
     alloc: Global,
     plan: &[u8],

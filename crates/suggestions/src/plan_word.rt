@@ -25,7 +25,7 @@ pub fn has_comment_sign(word: &[u8]) -> bool {
     word.starts_with(b"#") || word.starts_with(b"//") || word.starts_with(b"/*")
 }
 
-/// What helps at a word that no plan has, for a comment, a comma or a count; `before` is the byte before it.
+/// Returns advice for a comment, a comma or a count in a wrong word of a plan, else None; `before` is the byte before it.
 fn helps_at_count(word: &[u8], before: Option<u8>) -> Option<&'static str> {
     let count = word.get(..length_before(b'*', word)).unwrap_or(word);
     helps! {
@@ -40,7 +40,7 @@ fn helps_at_count(word: &[u8], before: Option<u8>) -> Option<&'static str> {
     }
 }
 
-/// What helps at a word that no plan has, for its dots.
+/// Returns advice if a wrong word of a plan has dots in the wrong place, and None if not.
 fn helps_at_dots(word: &[u8]) -> Option<&'static str> {
     let behind = word.get(length_before(b'.', word).saturating_add(1)..)?;
     helps! {
@@ -55,7 +55,7 @@ fn helps_at_dots(word: &[u8]) -> Option<&'static str> {
     }
 }
 
-/// What helps at a star, if its count isn't only too small or too large.
+/// Returns advice for a wrong count after a star. None if the count is only too small or too large.
 fn helps_at_star(word: &[u8]) -> Option<&'static str> {
     helps! {
         word.ends_with(b".") => AT_COUNTED_DOT,
@@ -74,7 +74,7 @@ seed random: `?7`, without a blank, plays any thread that can continue, by the s
 all each every: `..` plays all threads in turn
 ";
 
-/// Returns what helps at a wrong word of a plan, by its fault and the byte before it. None if its entry says enough.
+/// Returns advice for a wrong word of a plan, by its fault and the byte before it. None if the entry of the fault says enough.
 pub fn helps_at(kind: PlanFaultKind, word: &[u8], before: Option<u8>) -> Option<&'static str> {
     match kind {
         PlanFaultKind::BadWord if word.starts_with(&ELLIPSIS) => Some(
@@ -93,7 +93,8 @@ pub fn helps_at(kind: PlanFaultKind, word: &[u8], before: Option<u8>) -> Option<
     }
 }
 
-/// Returns the choice that is near to an unknown one: `x` of an expiry, the nearest of these names, and the dot or count.
+/// Returns the choice that a person may have meant: the nearest of these names with the word's dot or count, and `x` before it
+/// if it is an expiry. None if no name is near.
 pub fn near_choice(
     alloc: Global,
     names: &[&[u8]],

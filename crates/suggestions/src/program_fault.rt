@@ -22,7 +22,7 @@ const AT_TRACE: &str =
 const AT_IMAGE: &str =
     "this is an image already: SRC is a text, and `vuthgal list FILE` writes one";
 
-/// What helps at a name that nothing of the wanted kind has: the nearest one, all, or how to declare one.
+/// Returns advice for a name that nothing of the wanted kind has: the nearest name, all names, or how to declare one.
 fn hint_at_name(alloc: Global, text: &[u8], wanted: OperandKind, word: &[u8]) -> Hint {
     let names = names_in(alloc, text, Some(wanted))?;
     match nearest_of(alloc, names.as_slice(), word)?.meant {
@@ -40,7 +40,7 @@ fn hint_at_name(alloc: Global, text: &[u8], wanted: OperandKind, word: &[u8]) ->
     }
 }
 
-/// What helps at an unknown name, which may be that of another kind of thing.
+/// Returns advice for an unknown name. If a thing of another kind has this name, it says so.
 fn hint_at_unknown(alloc: Global, text: &[u8], unknown: UnknownName, word: &[u8]) -> Hint {
     let UnknownName { wanted, given } = unknown;
     let Some(given) = given else {
@@ -51,7 +51,7 @@ fn hint_at_unknown(alloc: Global, text: &[u8], unknown: UnknownName, word: &[u8]
     help(alloc, helps.as_bytes())
 }
 
-/// What helps at a name that an earlier line gave. The word has a colon if it is a label.
+/// Returns advice for a name that an earlier line gave: the number of that line. The word has a colon if it is a label.
 fn hint_at_second(alloc: Global, text: &[u8], word: &[u8]) -> Hint {
     let name = if is_label(word) {
         before_last(word)
@@ -65,7 +65,7 @@ fn hint_at_second(alloc: Global, text: &[u8], word: &[u8]) -> Hint {
     help(alloc, helps.as_bytes())
 }
 
-/// What helps at a word that begins no row or directive: the form of the row that it means, or the nearest word.
+/// Returns advice for a word that begins no row or directive: the form of the row that it means, or the nearest word.
 fn hint_at_word(alloc: Global, line: &[u8], word: &[u8]) -> Hint {
     if let Some(row) = row_meant(alloc, line, word) {
         return form_of(alloc, row.as_bytes());
@@ -76,7 +76,7 @@ fn hint_at_word(alloc: Global, line: &[u8], word: &[u8]) -> Hint {
     }
 }
 
-/// What helps at a word that is no option of a directive there: the nearest option, or the directive's form.
+/// Returns advice for a word that is no option of this directive: the nearest option, or the directive's form.
 fn hint_at_option(alloc: Global, directive: &[u8], word: &[u8]) -> Hint {
     match nearest_option(alloc, str::from_utf8(directive).unwrap_or(""), word)? {
         Some(option) => near(alloc, option),
@@ -84,7 +84,7 @@ fn hint_at_option(alloc: Global, directive: &[u8], word: &[u8]) -> Hint {
     }
 }
 
-/// What helps at the word that makes a fault of a text, if nothing more specific does.
+/// Returns advice for the word that makes a fault of a text, if nothing more specific is known. None if the entry says enough.
 fn hint_at(alloc: Global, text: &[u8], placed: PlacedFault, line: &[u8], word: &[u8]) -> Hint {
     if let Some(unknown) = placed.unknown {
         return hint_at_unknown(alloc, text, unknown, word);
@@ -103,7 +103,7 @@ fn hint_at(alloc: Global, text: &[u8], placed: PlacedFault, line: &[u8], word: &
     }
 }
 
-/// Returns the line that helps at a fault of a program's text. The text is the part of its file, `bytes`, above a line `.run`.
+/// Returns the line of advice for a fault of a program. `bytes` is its file, and `text` the part of it above a line `.run`.
 pub fn hint_in_program(alloc: Global, bytes: &[u8], text: &[u8], placed: PlacedFault) -> Hint {
     let PlacedFault { fault, at, .. } = placed;
     let line = line_at(bytes, fault.line).unwrap_or(&[]);

@@ -14,8 +14,7 @@ pub enum Origin {
     Plan,
 }
 
-/// What helps if a schedule is refused at the first byte of the `rest` of its line, if that is more than its entry says; `before` is the
-/// byte before it.
+/// Returns advice if a schedule is refused where `rest` begins; `before` is the byte before. None if the entry says enough.
 fn helps_at(bytes: &[u8], before: Option<u8>, rest: &[u8], origin: Origin) -> Option<&'static str> {
     let byte = rest.first().copied().unwrap_or(0);
     let is_of_plan = !matches!(rest, [b't' | b'x'])
@@ -41,8 +40,8 @@ fn helps_at(bytes: &[u8], before: Option<u8>, rest: &[u8], origin: Origin) -> Op
     helps_at_encoding(bytes).or(helps)
 }
 
-/// Returns what helps if a schedule is refused at a byte of a line, by its offset there, if that is more than its entry says. At the
-/// line's end the byte before it counts: there a star lacks its count.
+/// Returns advice if a schedule is refused at offset `at` of a line. None if the entry of the fault says enough. At the line's
+/// end its last byte is looked at: it may be a star without a count.
 pub fn helps_in_schedule(
     schedule: &[u8],
     line: &[u8],

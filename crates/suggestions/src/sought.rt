@@ -13,7 +13,7 @@ use refusals::table::directive::DIRECTIVES;
 use refusals::word::word_entry;
 use std::alloc::{AllocError, Global};
 
-/// The row or directive that is meant by a word in large letters, a method of Java, or an option of a directive.
+/// Returns the row or directive meant by a word in large letters, a method of Java, or an option. None if none is meant.
 fn word_meant(alloc: Global, word: &str) -> Result<Option<&'static str>, AllocError> {
     let small = word.as_bytes().to_ascii_lowercase(alloc)?;
     let small = small.as_slice();
@@ -29,7 +29,7 @@ fn word_meant(alloc: Global, word: &str) -> Result<Option<&'static str>, AllocEr
     )
 }
 
-/// Whether these words are the sentence of an entry, behind the name of its kind if it has one.
+/// Returns whether these words are the sentence of an entry, without the name of a kind and the colon before it.
 fn are_sentence(means: &str, words: &[&str]) -> bool {
     means
         .split_once(": ")
@@ -38,7 +38,8 @@ fn are_sentence(means: &str, words: &[&str]) -> bool {
         .eq(words.iter().copied())
 }
 
-/// The words that ask for an entry whose sentence a failure at a terminal has: these, behind its place and its kind, which have colons.
+/// Returns the words that ask for the entry whose sentence a person copied from the terminal. A place and a kind before the
+/// sentence end with colons, and are left out. None if no entry has it.
 fn asked_by_sentence(words: &[&str]) -> Option<&'static [&'static str]> {
     let before = words
         .iter()
@@ -52,7 +53,7 @@ fn asked_by_sentence(words: &[&str]) -> Option<&'static [&'static str]> {
         .and_then(|entry| entry.asked.first().copied())
 }
 
-/// The word that asks for what a line of the state, or a mark in a trace, is about: `p0` for any phaser, `+b0` for a barrier.
+/// Returns the word that `explain` knows for a thing with a number: `p0` for each phaser. None for other words.
 fn numbered_word(word: &str) -> Option<&'static str> {
     let letters = word.trim_end_matches(|letter: char| letter.is_ascii_digit());
     if letters.len() == word.len() {
@@ -70,7 +71,7 @@ fn numbered_word(word: &str) -> Option<&'static str> {
     }
 }
 
-/// The words that ask for an entry whose kind has this name, as `UnknownWord`, or that ask for it in other letters.
+/// Returns the words that ask for an entry whose kind has this name, or that are this name in other letters; else None.
 fn asked_by(name: &str) -> Option<&'static [&'static str]> {
     let is_name = |word: &str| word.as_bytes().eq_ignore_ascii_case(name.as_bytes());
     for entry in tables().iter().flat_map(|table| table.iter()) {
@@ -86,7 +87,7 @@ fn asked_by(name: &str) -> Option<&'static [&'static str]> {
     None
 }
 
-/// The words that ask for what a line of a trace says, if it lacks its number, as `t0 0 wait`.
+/// Returns the words that ask for what a line of a trace says without its number, as `t0 0 wait`. None if none do.
 fn asked_by_event(
     alloc: Global,
     words: &[&str],
@@ -100,7 +101,7 @@ fn asked_by_event(
     Ok(question.and_then(|question| question.entry.asked.first().copied()))
 }
 
-/// Returns the words of an entry that was meant by words that ask for none, or no word if that isn't known.
+/// Takes words that `explain` doesn't know, and returns known words that may have been meant, or no words.
 pub fn words_sought(alloc: Global, words: &[&str]) -> Result<Vec<&'static str>, AllocError> {
     let meant = match words {
         [word] => word_meant(alloc, *word)?,
@@ -132,7 +133,7 @@ pub fn words_sought(alloc: Global, words: &[&str]) -> Result<Vec<&'static str>, 
     }
 }
 
-/// Whether a line of `QUESTIONS` begins with this word, behind `explain`, or is that of exceptions, and this is the name of one.
+/// Returns whether a line of `QUESTIONS` has this word behind `explain`, or is that of exceptions, and the word names one.
 fn is_about(question: &str, word: &str) -> bool {
     let asked = question.split_ascii_whitespace().nth(1).unwrap_or("");
     asked == word || asked == "exception" && word.ends_with("Exception")
@@ -144,8 +145,8 @@ const ALL: &[u8] = b"explain                             all that you can ask\n"
 /// How many near questions are written at most, so that all is five lines.
 const MOST_LINES: usize = 3;
 
-/// Writes that no line has these words, and which questions they are near to: lines that begin like them, or the word that is
-/// nearest to a single one, or else how to see all.
+/// Writes that `explain` doesn't know these words, and what can be asked: lines of `QUESTIONS` about them, or the word nearest
+/// to a single one. If none is near, it writes how to see all questions.
 pub fn push_near_questions<E: Sink>(
     alloc: Global,
     errors: &mut E,

@@ -9,24 +9,25 @@ ghost use Rattle.thread_machine.specs.DirectCounts.{NoPhaseEndsEarly, NoPhaseEnd
 
 use loader::Loaded;
 
-/// Some choices are played, and then one more. The execution of all of them is the execution of the first ones, extended by
+/// A law: if choices are played, and then one more, the execution of all of them is that of the first ones, extended by
 /// the last one. So a caller that plays choice by choice has, at each moment, the execution of all choices so far.
 pub fn one_more_choice_extends_the_execution()
     ensures { (world : World) (choices : List Choice) (choice : Choice)
         → execution world (choices ++ choice ∷ []) ≡ extended (execution world choices) choice }
 {}
 
-/// If all choices are accepted, a higher limit of steps changes nothing. The events are the same, and the machine comes to the
-/// same state, but for its limit.
+/// A law: if all choices are accepted, a higher limit of steps changes nothing. The events are the same, and the machine
+/// comes to the same state, but for its limit.
 pub fn a_higher_limit_changes_nothing_that_was_accepted()
     ensures { (limit : ℕ) (world : World) (choices : List Choice) → world.limit ≤ limit
         → (execution world choices).refusal ≡ None
         → execution (with_limit limit world) choices ≡ under_limit limit (execution world choices) }
 {}
 
-/// No phase of a loaded program ends early, whichever choices were made before. If an accepted choice ends a phase, every
-/// party that registered directly with a phaser of the tree has arrived or left. The only exception is a tree in which a
-/// party arrived earlier when no directly registered party was left to arrive. A termination by force ends no phase.
+/// A law: no phase of a loaded program ends early, whichever choices were made before. If an accepted choice ends a phase,
+/// every party that registered directly with a phaser of the tree has arrived or left. The only exception is a tree in which a
+/// party arrived earlier when no directly registered party was left to arrive. A termination by force ends no phase. The laws
+/// that it calls are there for the proof.
 pub fn no_phase_ends_early(program: &Loaded)
     ensures declared { (image : Image) → IsProgramOf image program.now
         → NoPhaseEndsEarly program.now (declared_origin image.phasers) }
@@ -37,7 +38,7 @@ pub fn no_phase_ends_early(program: &Loaded)
     program.phasers().is_forest();
 }
 
-/// No phase of an image without a fault ends early, even if the image is never loaded.
+/// A law: no phase of an image without a fault ends early, even if the image is never loaded.
 pub fn no_phase_of_an_image_ends_early()
     ensures { (image : Image) (limit : ℕ) → IsImage image → first_fault image ≡ None → limit ≤ 1000000000
         → NoPhaseEndsEarlyFrom (first_of image limit) (declared_origin image.phasers) }

@@ -74,7 +74,7 @@ fn new_threads(alloc: Global, declared: &[DeclaredThread]) -> Result<Vec<Thread>
     Ok(threads)
 }
 
-/// Makes the stage of the program before the first choice.
+/// Makes the stage of the program before the first choice. The first two calls only help to prove that it is sound.
 fn first_stage(alloc: Global, program: &Loaded) -> Result<Stage, AllocError>
     ensures stored { IfOk result (λ stage. stage.phasers ≡ program.now.phasers) }
     ensures scene { IfOk result (λ stage. scene_of stage ≡ first_scene program.now) }
@@ -90,6 +90,7 @@ fn first_stage(alloc: Global, program: &Loaded) -> Result<Stage, AllocError>
 
 impl Machine {
     /// Makes the machine of a program, for at most `limit` effective steps. Later only a value that is put out needs memory.
+    /// The laws that it calls are there for the proof.
     pub fn new(alloc: Global, program: Loaded, limit: u32) -> Result<Machine, AllocError>
         requires { limit ≤ 1000000000 }
         ensures { IfOk result (λ machine. world_of machine ≡ first_world program limit) }
@@ -161,7 +162,7 @@ impl Machine {
         }
     }
 
-    /// Plays a turn that isn't common, or an expiry. The room for its result is here: so a common turn needn't pay for it.
+    /// Plays a turn that isn't common, or an expiry. Its result has room here, in `told`, which a common turn doesn't need.
     #[inline(always)]
     fn seldom(&mut self, choice: Choice) -> Result<Event, StepFault>
         requires there { choice.thread < length self.old.scene.threads }
@@ -175,7 +176,7 @@ impl Machine {
         told
     }
 
-    /// Plays a turn that isn't common, or an expiry. `told` holds the event of an idle choice, and gets any other result.
+    /// Plays a turn that isn't common, or an expiry. `told` gets its result. Before, it holds the result of an idle choice.
     #[inline(never)]
     fn seldom_step(&mut self, choice: Choice, told: &mut Result<Event, StepFault>)
         requires there { choice.thread < length self.old.scene.threads }
@@ -196,7 +197,8 @@ impl Machine {
         }
     }
 
-    /// Plays the turn of a runnable thread, and counts it. `told` gets the result. Out of memory it changes nothing else.
+    /// Plays the turn of a thread that can take one, counts it, and writes the result to `told`. It is `Memory` if there is
+    /// none for `out`, and then nothing else changes.
     fn turn(&mut self, choice: Choice, told: &mut Result<Event, StepFault>)
         requires there { choice.thread < length self.old.scene.threads }
         requires choices { self.old.choices < 1000000000000 }
@@ -215,7 +217,7 @@ impl Machine {
         }
     }
 
-    /// Ends a timed wait that can expire, and counts the choice. `told` gets the event.
+    /// Ends a timed wait that can expire, counts the choice, and writes the event to `told`.
     fn expire(&mut self, choice: Choice, told: &mut Result<Event, StepFault>)
         requires there { choice.thread < length self.old.scene.threads }
         requires choices { self.old.choices < 1000000000000 }
@@ -307,7 +309,7 @@ impl Machine {
         }
     }
 
-    /// A law: every machine fulfils `IsMachine`. It only reads a field, which brings the invariant of `Machine` into the proof.
+    /// A law: every machine fulfils `IsMachine`. The read of a field brings the invariant of `Machine` into the proof.
     fn is_sound(&self)
         ensures { IsMachine self.now }
     {

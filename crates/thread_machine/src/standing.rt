@@ -24,7 +24,7 @@ impl Standing {
         }
     }
 
-    /// Returns the standing with this word: `all`, `stuck` or `live`. Any other word has none.
+    /// Returns the standing with this word: `all`, `stuck` or `live`. `None`: it is another word.
     pub fn named(name: &str) -> Option<Standing>
         ensures { MatchOption result (All (λ other. name.now ≢ other) names) (λ word. name.now ≡ name_of word) }
     {

@@ -15,7 +15,7 @@ pub enum Ending {
 }
 
 impl Ending {
-    /// Returns whether a program whose run ended so has ended, is stuck, or, at the limit of steps, can still go on.
+    /// Returns the state of a program whose run ended so: it has ended, it is stuck, or, at the limit of steps, it can go on.
     pub fn standing(self) -> Standing
         ensures { result ≡ standing_at self }
     {

@@ -9,5 +9,6 @@ pub trait Gate {
 pub struct NoGate;
 
 impl Gate for NoGate {
+    /// Returns at once: any worker may go on.
     fn pass(&self, _thread: u8, _step: u32) {}
 }

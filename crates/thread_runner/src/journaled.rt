@@ -68,7 +68,7 @@ impl Journaled {
     }
 
     /// Lets a thread's timed wait expire, and records it. It fails if it isn't the next to expire (`is_due`), at the limit of
-    /// steps, or without memory.
+    /// steps, or without memory. The call of `has_few_threads` only helps the proof.
     pub fn take_expiry(&mut self, thread: u8) -> Result<Event, TakeFault>
         requires { thread < length self.old.first.scene.threads }
         ensures played { IfOk result (λ event. record { world = recorded_world self.new; event = event }
@@ -91,7 +91,7 @@ impl Journaled {
     }
 
     /// Plays a choice that is a step, and records it. It makes room in the record first, so that after a failure nothing has
-    /// changed.
+    /// changed. The call of `has_few_threads` only helps the proof.
     fn take(&mut self, choice: Choice) -> Result<Event, TakeFault>
         requires thread { choice.thread < length self.old.first.scene.threads }
         requires ready { is_choice_ready (recorded_world self.old).program choice (recorded_world self.old).scene ≡ true }
@@ -129,7 +129,7 @@ impl Journaled {
         self.machine.thread_count()
     }
 
-    /// A law: there are at most 64 threads, and as many as at first. The function itself changes nothing.
+    /// A law: there are at most 64 threads, as many as at first. It calls `thread_count` only for what its contract says.
     pub(crate) fn has_few_threads(&self)
         ensures few { length self.now.first.scene.threads ≤ 64 }
         ensures now { length (recorded_world self.now).scene.threads ≡ length self.now.first.scene.threads }
@@ -137,7 +137,7 @@ impl Journaled {
         let _ = self.thread_count();
     }
 
-    /// Returns whether a thread's turn would be a step.
+    /// Returns whether a thread's turn would be a step: whether it is runnable.
     pub fn is_ready(&self, thread: u8) -> bool
         requires { thread < length self.now.first.scene.threads }
         ensures { result ≡ is_ready_in (recorded_world self.now) thread }
@@ -177,7 +177,7 @@ impl Journaled {
         matches!(self.machine.status(thread), Status::Ended | Status::Died(_))
     }
 
-    /// Makes the choice that a thread has to make, and records it: its turn, or the expiry of its wait. `NotReady`: none.
+    /// Makes the choice that a thread has to make, and records it: its turn, or its wait's expiry. `NotReady`: it has none.
     pub fn take_choice(&mut self, thread: u8) -> Result<Event, TakeFault>
         requires { thread < length self.old.first.scene.threads }
         ensures recorded { OnOk result
@@ -197,7 +197,7 @@ impl Journaled {
         self.take_expiry(thread)
     }
 
-    /// Makes the choice of the lowest thread that has one, and records it. The run isn't over, so only memory can be missing.
+    /// Makes the choice of the lowest thread that has one, and records it. The run isn't over, so it fails only without memory.
     #[tactic(auto, using(crate::proofs::Choosing::step_left))]
     pub fn take_next(&mut self) -> Result<Event, TakeFault>
         requires { ending_of (recorded_world self.old) ≡ None }
@@ -220,6 +220,7 @@ impl Journaled {
     pub fn each_record_is_a_replay(&self)
         ensures { IsReplay self.now (recorded_world self.now) }
     {
+        // Naming a field tells the proof what always holds for a record.
         let _ = &self.schedule;
     }
 
@@ -266,7 +267,7 @@ impl Journaled {
         self.schedule.as_slice()
     }
 
-    /// Returns the record as a schedule, and the machine to which it leads.
+    /// Returns the record as a schedule, and the machine to which it leads. Neither is copied.
     pub fn into_parts(self) -> (Vec<u8>, Machine)
         ensures first { self.first ≡ first_world result.1.program result.1.limit }
         ensures choices { self ≡ recording_of self.first result.0.items }

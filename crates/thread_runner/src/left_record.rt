@@ -9,8 +9,8 @@ use loader::Loaded;
 use std::alloc::Global;
 use std::marker::Model;
 
-/// The choices that a run had played when it was out of memory, as a schedule. Nothing but the run's own record becomes one, and
-/// all of it does. It is empty if there was no memory for a machine.
+/// The choices that a run had played when it was out of memory, as a schedule. Nothing but the run's own record becomes one,
+/// and all of it does. It is empty if there was no memory for a machine.
 #[derive(Drop)]
 pub struct LeftRecord {
     schedule: Vec<u8>,
@@ -25,7 +25,7 @@ impl Model for LeftRecord {
 }
 
 impl LeftRecord {
-    /// Takes all of a record.
+    /// Takes the whole schedule of a run that is out of memory. The machine is dropped.
     pub(crate) fn of(journaled: Journaled) -> LeftRecord
         ensures left { (world : World) × IsRecordOf journaled.first result world }
         ensures whole { choices_of (finished_schedule result).runs ≡ journaled.choices }

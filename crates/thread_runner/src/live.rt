@@ -57,7 +57,7 @@ impl LiveState {
         !self.journaled.may_choose(thread) && !self.leaves(thread)
     }
 
-    /// Returns whether the worker of a thread waits, and notes this in `sleepers`.
+    /// Returns whether the worker of a thread waits, and notes this in `sleepers`. Its first call only helps the proof.
     fn falls_asleep(&mut self, thread: u8) -> bool
         requires { thread < length self.old.journaled.first.scene.threads }
         ensures waits { result ≡ waits self.old.broken (recorded_world self.old.journaled) thread }
@@ -71,7 +71,7 @@ impl LiveState {
         waits
     }
 
-    /// Returns whether the worker of a thread sleeps, and needn't wait any longer.
+    /// Returns whether the worker of a thread sleeps, and needn't wait any longer. Its first call only helps the proof.
     fn wakes(&self, thread: u8) -> bool
         requires { thread < length self.now.journaled.first.scene.threads }
         ensures { result ≡ wakes self.now.broken (recorded_world self.now.journaled) self.now.sleepers thread }
@@ -105,8 +105,8 @@ impl LiveState {
         }
     }
 
-    /// Lets a worker that needn't wait make its thread's choice, and returns true. It returns false if the worker stops: if it
-    /// leaves, or if memory runs out, which breaks the run off.
+    /// Lets a worker that needn't wait make its thread's choice, and returns true. It returns false if the worker has to stop:
+    /// the run or its thread is over (`leaves`), or memory runs out, which breaks the run off.
     fn turn(&mut self, thread: u8) -> bool
         requires there { thread < length self.old.journaled.first.scene.threads }
         requires waits { waits self.old.broken (recorded_world self.old.journaled) thread ≡ false }
@@ -145,7 +145,7 @@ pub struct Live<O: Origin> {
 }
 
 impl<O: Origin> Live<O> {
-    /// Makes a run that nobody has broken off, and in which nobody sleeps.
+    /// Makes the state of a run before its workers start: nothing has broken it off, and no worker sleeps.
     #[tactic(auto, using(crate::proofs::Sleeping::none_sleeps))]
     pub fn new(journaled: Journaled) -> Live<O>
         requires { journaled.first ≡ O.first }
@@ -163,14 +163,14 @@ impl<O: Origin> Live<O> {
         }
     }
 
-    /// A law: every worker that sleeps has to wait. The function itself changes nothing.
+    /// A law: every worker that sleeps has to wait. Its step changes nothing: it tells the proof what `woken` says.
     fn none_wakes(&self)
         ensures { some_wakes self.now.state.broken (recorded_world self.now.state.journaled) self.now.state.sleepers ≡ false }
     {
         let _ = &self.state;
     }
 
-    /// Returns whether the worker of a thread waits, and notes this.
+    /// Returns whether the worker of a thread waits, and notes this. The call of `none_wakes` only helps the proof.
     pub fn falls_asleep(&mut self, thread: u8) -> bool
         requires { thread < length O.first.scene.threads }
         ensures waits { result ≡ waits self.old.state.broken (recorded_world self.old.state.journaled) thread }
@@ -183,7 +183,7 @@ impl<O: Origin> Live<O> {
     }
 
     /// Lets a worker that needn't wait make its thread's choice, or stop, and wakes the others if one of them needn't wait any
-    /// longer. Returns false if the worker stops: if it leaves, or if memory runs out, which breaks the run off.
+    /// longer. Returns false if the worker has to stop: the run or its thread is over, or memory runs out, which breaks it off.
     pub fn turn(&mut self, thread: u8, changed: &Condvar) -> bool
         requires there { thread < length O.first.scene.threads }
         requires waits { waits self.old.state.broken (recorded_world self.old.state.journaled) thread ≡ false }

@@ -30,7 +30,7 @@ pub struct LiveRun {
     pub ending: Ending,
 }
 
-/// The worker of a thread. It passes the gate, takes the lock, waits until it has something to do, and makes its thread's
+/// Runs the worker of a thread. It passes the gate, takes the lock, waits until it has something to do, and makes its thread's
 /// choice. No wake-up is lost: what is under the lock says whether a worker waits. Before it sleeps, a worker is noted among
 /// the sleepers, until it finds that it needn't wait, or all are woken. Whoever changes what is under the lock can give the
 /// lock back only when each sleeper has to wait (`woken`), so it wakes them if one needn't.
@@ -104,7 +104,8 @@ fn start<O: Origin + Send + Sync, R: Threads + Wait + Sync, G: Gate + Sync>(
     );
 }
 
-/// Plays a run to its end, choice by choice. If the workers weren't broken off, they have left nothing to play.
+/// Plays the rest of a run, which is nothing, unless workers stopped early. Returns its record and how it ended. The call of
+/// `each_record_is_a_replay` only helps the proof.
 fn play_on(mut journaled: Journaled) -> Result<(Journaled, Ending), LiveFault>
     ensures first { IfOk result (λ both. both.0.first ≡ journaled.first) }
     ensures ending { IfOk result (λ both. ending_of (recorded_world both.0) ≡ Some both.1) }
@@ -124,7 +125,7 @@ fn play_on(mut journaled: Journaled) -> Result<(Journaled, Ending), LiveFault>
     }
 }
 
-/// Returns the fault of a run that ran out of memory, with what was played until then.
+/// Returns the fault of a run that ran out of memory, with the schedule that was played until then.
 fn out_of_memory(journaled: Journaled) -> LiveFault
     ensures left { HasLeft journaled.first result }
     ensures kept { HasKept journaled result }

@@ -23,7 +23,7 @@ impl Model for Sleepers {
 }
 
 impl Sleepers {
-    /// Returns that nobody sleeps.
+    /// Makes an empty set: no worker sleeps.
     pub fn none() -> Sleepers
         ensures { result ≡ 0 }
     {
@@ -38,7 +38,7 @@ impl Sleepers {
         self.noted = set_at(self.noted, usize::from(thread), waits);
     }
 
-    /// Returns whether the worker of a thread is noted.
+    /// Returns whether the worker of a thread is noted as one that sleeps.
     pub fn has(&self, thread: u8) -> bool
         requires { thread < 64 }
         ensures { result ≡ has self.now thread }

@@ -104,7 +104,7 @@ impl Thread {
         self.registers.get(reg)
     }
 
-    /// Returns whether the thread is interrupted.
+    /// Returns the interrupted status, as `Thread.isInterrupted`.
     pub fn interrupted(&self) -> bool
         ensures { result ≡ self.now.interrupted }
     {
@@ -119,21 +119,21 @@ impl Thread {
         self.stack.as_slice()
     }
 
-    /// Returns the top entry of its stack, if there is one.
+    /// Returns the top entry of its stack, or `None` if the stack is empty.
     pub fn top(&self) -> Option<Frame>
         ensures { result ≡ top_of self.now.stack }
     {
         self.stack.last().copied()
     }
 
-    /// Returns whether the stack is full.
+    /// Returns whether the stack is full, with 64 entries.
     pub fn is_full(&self) -> bool
         ensures { result ≡ is_full self.now }
     {
         self.stack.len() == STACK_ROOM
     }
 
-    /// Returns whether the thread runs the routine of this root, perhaps in a call.
+    /// Returns whether the thread runs the `onAdvance` routine of this root: its entry may be anywhere on the stack.
     pub fn advances(&self, root: u8) -> bool
         ensures { result ≡ list_any (is_advance root) self.now.stack }
     {
@@ -155,7 +155,7 @@ impl Thread {
         matches!(self.status, Status::Ended | Status::Died(_))
     }
 
-    /// Throws an exception at its row. From the next turn on, the thread looks for a handler.
+    /// Throws exception `code` at its row. From the next turn on, the thread looks for a handler.
     pub fn throw(&mut self, code: i32) -> What
         ensures { record { thread = self.new; what = result } ≡ turn_of_throw code self.old }
     {
@@ -163,7 +163,7 @@ impl Thread {
         What::Throws(code)
     }
 
-    /// Throws 3 because of an interrupt, and clears the interrupted status.
+    /// Throws 3 (InterruptedException), and clears the interrupted status.
     pub fn take_interruption(&mut self) -> What
         ensures { record { thread = self.new; what = result } ≡ turn_of_interruption self.old }
     {
@@ -182,7 +182,7 @@ impl Thread {
         What::Value(value)
     }
 
-    /// Goes to the next row after one without a result.
+    /// Goes to the next row after a row that has no result.
     pub fn done(&mut self) -> What
         requires { self.old.pc < 65535 }
         ensures { record { thread = self.new; what = result } ≡ turn_of_done self.old }
@@ -207,7 +207,7 @@ impl Thread {
         What::Waits
     }
 
-    /// `halt`: ends the thread. In a routine or an action it throws 7.
+    /// Plays `halt`: ends the thread. In a routine or an action it throws 7 instead.
     pub fn halt(&mut self) -> What
         ensures { record { thread = self.new; what = result } ≡ turn_of_halt self.old }
     {
@@ -225,7 +225,7 @@ impl Thread {
         self.stack.iter().any(|frame| frame.is_routine())
     }
 
-    /// Plays a row that uses only the thread's registers and the number of its next row, such as `add` or `jmp`.
+    /// Plays a row that uses only the thread's registers and its next row, such as `add` or `jmp`. Returns its result, if any.
     #[inline(always)]
     pub fn local_row(&mut self, row: Row) -> What
         requires row { IsTrue (is_local_row row) }
@@ -238,7 +238,7 @@ impl Thread {
         }
     }
 
-    /// `out`: appends a register's number to the output, or throws 8 if that is full. `Err`: no memory, and nothing changes.
+    /// Plays `out`: appends a register's number to the output, or throws 8 if that is full. Without memory, nothing changes.
     pub fn out(&mut self, from: Reg) -> Result<What, AllocError>
         requires { self.old.pc < 65535 }
         ensures ok { IfOk result (λ what.
@@ -255,7 +255,7 @@ impl Thread {
         Ok(What::Out(value))
     }
 
-    /// `call`: pushes the number of the next row, and goes to `target`. It throws 6 if the stack is full.
+    /// Plays `call`: pushes the number of the next row, and goes to `target`. It throws 6 if the stack is full.
     pub fn call(&mut self, target: u16) -> What
         requires { self.old.pc < 65535 }
         ensures { record { thread = self.new; what = result } ≡ turn_of_call target self.old }
@@ -266,7 +266,7 @@ impl Thread {
         self.enter(Frame::Call(self.pc + 1), target)
     }
 
-    /// `try`: pushes a handler, and goes to the next row. It throws 6 if the stack is full.
+    /// Plays `try`: pushes a handler, and goes to the next row. It throws 6 if the stack is full.
     pub fn begin_try(&mut self, handler: u16) -> What
         requires { self.old.pc < 65535 }
         ensures { record { thread = self.new; what = result } ≡ turn_of_try handler self.old }
@@ -277,7 +277,7 @@ impl Thread {
         self.enter(Frame::Handler(handler), self.pc + 1)
     }
 
-    /// Pushes an entry, and goes to this row. The stack isn't full.
+    /// Pushes an entry, and goes to this row. The stack has room reserved for 64 entries, so that pushing never fails.
     fn enter(&mut self, entry: Frame, row: u16) -> What
         requires { is_full self.old ≡ false }
         ensures thread { self.new ≡ with_entry entry row self.old }
@@ -290,7 +290,7 @@ impl Thread {
         What::Done
     }
 
-    /// `endtry`: pops the handler on top of the stack. It throws 7 if another entry is on top, or none.
+    /// Plays `endtry`: pops the handler on top of the stack. It throws 7 if another entry is on top, or none.
     pub fn end_try(&mut self) -> What
         requires { self.old.pc < 65535 }
         ensures { record { thread = self.new; what = result }
@@ -305,7 +305,7 @@ impl Thread {
         }
     }
 
-    /// Plays `ret` after a call: pops the call's entry, which is on top of the stack, and goes to its row.
+    /// Plays `ret` after a call: pops the call's entry, which the caller has read (`let _`), and goes to its row.
     pub fn return_to(&mut self, row: u16) -> What
         ensures { record { thread = self.new; what = result } ≡ turn_of_return row self.old }
     {
@@ -338,7 +338,8 @@ impl Thread {
         What::Enters
     }
 
-    /// Leaves the routine or action on top of the stack: the thread is back at its arrival's `row`, with these registers.
+    /// Pops the routine or action on top of the stack (`let _`). The thread is at its arrival's `row` again, with these
+    /// registers.
     pub fn leave_routine(&mut self, registers: &Regs, row: u16)
         ensures { self.new ≡ left_routine registers.now row self.old }
     {
@@ -347,8 +348,8 @@ impl Thread {
         self.pc = row;
     }
 
-    /// `Thread.interrupt`: only sets the interrupted status. A thread in an interruptible wait notices it at its next turn. A
-    /// thread that has ended or died stays as it is.
+    /// Does `Thread.interrupt`: only sets the interrupted status, which a thread in an interruptible wait notices at its next
+    /// turn. A thread that has ended or died stays as it is.
     pub fn interrupt(&mut self)
         ensures { self.new ≡ interrupted self.old }
     {
@@ -357,7 +358,7 @@ impl Thread {
         }
     }
 
-    /// `intrd`: puts the interrupted status, 1 or 0, into a register, and clears it (`Thread.interrupted`).
+    /// Plays `intrd`: puts the interrupted status, 1 or 0, into a register, and clears it (`Thread.interrupted`).
     pub fn take_interrupt(&mut self, into: Reg) -> What
         requires { self.old.pc < 65535 }
         ensures { record { thread = self.new; what = result } ≡ turn_of_intrd into self.old }
@@ -368,7 +369,7 @@ impl Thread {
     }
 
     /// Pops one entry while exception `code` looks for its handler. A handler catches it, and R7 gets it. A routine or an
-    /// action gives back the registers of before. With an empty stack the thread dies.
+    /// action ends, and the registers are those of the arrival again. With an empty stack the thread dies.
     pub fn pop(&mut self, code: i32) -> What
         ensures { record { thread = self.new; what = result } ≡ turn_of_pop code self.old }
     {

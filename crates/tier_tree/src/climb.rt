@@ -30,7 +30,8 @@ struct Ascent {
     levels: usize,
 }
 
-/// Returns the result of an arrival at phaser `i` alone. `top` is its root's word. If its own lags, their upper halves differ.
+/// Returns the result of an arrival at phaser `i`, without those above. `top` is its root's word. If its own word is of an
+/// earlier phase, their upper halves differ.
 #[inline(always)]
 fn arrival_at(nodes: &[Node], i: usize, top: Word, leave: bool) -> packed_phaser::Arrived
     requires stored { IsStored nodes.now }
@@ -48,9 +49,9 @@ fn arrival_at(nodes: &[Node], i: usize, top: Word, leave: bool) -> packed_phaser
     }
 }
 
-/// Goes from the first phaser of the line up to one at which others are still to arrive, and changes none. It fills `words`
-/// with their new words. A child whose parties have all arrived arrives above, or leaves there if it has no party left.
-/// If a phaser has no party left that could arrive, the whole arrival is refused, and none gets a new word.
+/// Computes an arrival's new words, from the line's first phaser up to one at which others are still to arrive, and writes them
+/// into `words` only. A child whose parties have all arrived arrives above, or leaves there if it has no party left. Returns
+/// how many words there are. If a phaser has no party left that could arrive, the arrival is refused, with none.
 #[inline(always)]
 fn look(nodes: &[Node], line: &[u8], top: Word, leave: bool, words: &mut [Word]) -> Ascent
     requires stored { IsStored nodes.now }
@@ -119,7 +120,7 @@ fn write(nodes: &mut [Node], line: &[u8], words: &[Word])
     }
 }
 
-/// `arrive` by one look from phaser `i` up to its root, and one write. It is compiled apart for parties that leave and stay.
+/// Plays `arrive` from phaser `i` up to its root: computes all new words, and then writes them. `LEAVE`: the party leaves.
 #[inline(never)]
 fn ascend<const LEAVE: bool>(nodes: &mut [Node], i: usize) -> Arrived
     requires stored { IsStored nodes.old }
@@ -152,7 +153,7 @@ fn ascend<const LEAVE: bool>(nodes: &mut [Node], i: usize) -> Arrived
     }
 }
 
-/// `arrive` if phasers above may change. It is apart, so that an arrival that ends at its phaser has no buffer for `ascend`.
+/// Plays `arrive` if phasers above may change. It is apart: so an arrival that ends at its phaser needs no buffer.
 #[inline(always)]
 fn arrive_above(nodes: &mut [Node], i: usize, leave: bool) -> Arrived
     requires stored { IsStored nodes.old }
@@ -171,7 +172,7 @@ fn arrive_above(nodes: &mut [Node], i: usize, leave: bool) -> Arrived
     }
 }
 
-/// `arrive` at phaser `i`, or `arriveAndDeregister` if the party leaves. If a child turns, phasers above change, too.
+/// Plays `arrive` at phaser `i`, or `arriveAndDeregister` if the party leaves. If a child turns, phasers above change, too.
 #[inline(always)]
 pub fn arrive(nodes: &mut [Node], i: usize, leave: bool) -> Arrived
     requires stored { IsStored nodes.old }

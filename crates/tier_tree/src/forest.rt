@@ -81,7 +81,7 @@ impl Forest {
         join::registration(self.nodes.as_slice(), id.0 as usize, count)
     }
 
-    /// `register` if `count` is 1, and otherwise `bulkRegister(count)`. `Held`: Java's call would wait, and nothing changes.
+    /// Registers parties: Java's `register` for 1, else `bulkRegister`. `Held`: Java's call would wait, and nothing changes.
     pub fn register(&mut self, id: PhaserId, count: u32) -> Registered
         requires { id.0 < length self.old }
         ensures answer { result ≡ registration id.0 count (phasers_of self.old) }
@@ -94,7 +94,7 @@ impl Forest {
         join::register(self.nodes.as_mut_slice(), id.0 as usize, count)
     }
 
-    /// `arrive`, or `arriveAndDeregister` if the party leaves. `Turning` leaves the root turned, until `finish_turn`.
+    /// Plays `arrive`, or `arriveAndDeregister` if the party leaves. After `Turning`, only `finish_turn` ends the phase.
     #[inline(always)]
     pub fn arrive(&mut self, id: PhaserId, leave: bool) -> Arrived
         requires { id.0 < length self.old }
@@ -112,9 +112,9 @@ impl Forest {
         climb::arrive(self.nodes.as_mut_slice(), id.0 as usize, leave)
     }
 
-    /// Ends the phase of a turned root after `onAdvance` has returned `ends`. If the tree had no stray arrival, everybody who
-    /// registered directly with a phaser of it has arrived (`safe`). Fewer than 2147483647 phases of the tree may have ended
-    /// before, as a limit of steps ensures: no word that lags is ever all 2147483648 phase numbers behind.
+    /// Ends the phase of a root at which all have arrived, after `onAdvance` has returned `ends`. If no arrival in the tree was
+    /// one too many (stray), everybody who registered directly with a phaser of it has arrived (`safe`). Fewer than 2147483647
+    /// phases of the tree may have ended before, as a limit of steps ensures: so no word is ever 2147483648 phases behind.
     pub fn finish_turn(&mut self, root: PhaserId, ends: bool)
         requires there { root.0 < length self.old }
         requires root { root_at (phasers_of self.old) root.0 ≡ root.0 }
@@ -130,7 +130,7 @@ impl Forest {
         phase_end::end_phase(self.nodes.as_mut_slice(), root.0 as usize, ends);
     }
 
-    /// `forceTermination`: terminates the phaser's tree. The phase and the registered parties stay. A second call does nothing.
+    /// Terminates the phaser's tree: `forceTermination`. The phase and the registered parties stay. A second call does nothing.
     pub fn force(&mut self, id: PhaserId)
         requires { id.0 < length self.old }
         ensures forest { phasers_of self.new ≡ after_force id.0 (phasers_of self.old) }
@@ -176,16 +176,16 @@ impl Forest {
 
 /// Laws: what is true of every forest. Each only reads a field, which brings the invariant of `Forest` into its proof.
 impl Forest {
-    /// A forest has at most 64 phasers, and the line of each phaser leads up to a root. The word of a phaser may have an
-    /// older phase than the root. It is older by at most as many phases as have ended in this tree. No phaser is terminated
-    /// before its root. The lemmas of other crates require these facts.
+    /// A law: a forest has at most 64 phasers, and that the line of each phaser leads up to a root. The word of a phaser
+    /// may have an older phase than the root. It is older by at most as many phases as have ended in this tree. No phaser is
+    /// terminated before its root. The lemmas of other crates require these facts. The read of a field is there for the proof.
     pub fn is_forest(&self)
         ensures { IsStored self.now }
     {
         let _ = &self.nodes;
     }
 
-    /// Each phaser is in the phase of its root, and is terminated exactly if its root is terminated.
+    /// A law: each phaser has its root's phase, and is terminated exactly if the root is. The read serves the proof.
     #[tactic(auto, using(crate::proofs::Calls::one_phase))]
     pub fn each_tree_has_one_phase(&self)
         ensures { HaveOnePhase (phasers_of self.now) }
@@ -193,8 +193,8 @@ impl Forest {
         let _ = &self.nodes;
     }
 
-    /// An arrival is stray if all parties that registered directly with its phaser have arrived already. In a tree that had
-    /// no stray arrival, nobody can register or arrive while the root is turned.
+    /// A law: in a tree without a stray arrival, nobody can register or arrive while the root is turned. An arrival is
+    /// stray if all parties that registered directly with its phaser have arrived already. The read serves the proof.
     #[tactic(auto, using(crate::proofs::Between::between))]
     pub fn nobody_comes_between(&self)
         ensures { NobodyComesBetween (phasers_of self.now) }

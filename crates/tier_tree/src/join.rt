@@ -96,7 +96,7 @@ pub fn join_along(nodes: &mut [Node], line: &[u8], count: u32)
     join_at(nodes, i, count);
 }
 
-/// Returns what a registration with phaser `i` would return. It checks in this order: terminated, 0 parties, too many, held.
+/// Returns what a registration with phaser `i` would return. It checks in this order: terminated, 0 parties, `TooMany`, `Held`.
 pub fn registration(nodes: &[Node], i: usize, count: u32) -> Registered
     requires stored { IsStored nodes.now }
     requires there { i < length nodes.now }

@@ -24,7 +24,7 @@ impl Model for Line {
 }
 
 impl Line {
-    /// Returns the line of a root.
+    /// Returns the line of a root: only its own number.
     pub fn of_root(id: u8) -> Line
         ensures { result ≡ id ∷ [] }
     {

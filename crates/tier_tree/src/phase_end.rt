@@ -6,7 +6,7 @@ ghost use Rattle.tier_tree.specs.Stored.{IsStored, ChangedOnly, ChangedAt, phase
 use crate::node::Node;
 use crate::present::{root_of, root_word_at};
 
-/// Ends the phase of a turned root, and terminates the tree if `ends`. Only the root's word changes, and others lag then.
+/// Ends the phase of a turned root, and terminates the tree if `ends`. Only its word changes: the others are of a past phase.
 pub fn end_phase(nodes: &mut [Node], root: usize, ends: bool)
     requires stored { IsStored nodes.old }
     requires there { root < length nodes.old }
@@ -22,7 +22,7 @@ pub fn end_phase(nodes: &mut [Node], root: usize, ends: bool)
     nodes[root].end_phase(word);
 }
 
-/// Terminates the tree of a root. Only the root's word changes, and the others lag then.
+/// Terminates the tree of a root. Only the root's word changes; the others then count as terminated, too.
 fn force_root(nodes: &mut [Node], root: usize)
     requires stored { IsStored nodes.old }
     requires there { root < length nodes.old }

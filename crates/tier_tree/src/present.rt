@@ -17,8 +17,8 @@ pub fn phase_of(word: Word) -> Phase
     Phase::prevailing(word.phase_view())
 }
 
-/// Returns what the word `own` says at present, given that of its `root`. If it lags, all its parties are to arrive in the
-/// root's phase, or it is terminated, too.
+/// Returns what the word `own` says at present, given that of its `root`. If it is of an earlier phase, all its parties are to
+/// arrive in the root's phase. If the root is terminated, so is the result.
 #[inline(never)]
 fn renewed(root: Word, own: Word) -> Word
     ensures { record_of result ≡ present (record_of root) (record_of own) }
@@ -33,7 +33,7 @@ fn renewed(root: Word, own: Word) -> Word
     }
 }
 
-/// Returns what a word says at present, given that of its root. Most words don't lag: their upper half is the root's.
+/// Returns what a word says at present, given that of its root. Most are of the root's phase: the upper halves are equal.
 #[inline(always)]
 #[tactic(auto, using(crate::proofs::View::stands_as_it_is))]
 fn brought_up(root: Word, own: Word) -> Word
@@ -46,7 +46,7 @@ fn brought_up(root: Word, own: Word) -> Word
     }
 }
 
-/// Returns the line of phaser `i`, which begins with its own number.
+/// Returns the line of phaser `i`: its own number first, then those above it, which all exist and have the same root.
 #[tactic(auto, using(crate::proofs::Changed::line_read, crate::proofs::Ascent::tree_read, crate::proofs::Ascent::own_read))]
 pub fn line_at(nodes: &[Node], i: usize) -> Line
     requires stored { IsStored nodes.now }
@@ -84,7 +84,7 @@ pub fn top_at(nodes: &[Node], i: usize) -> Word
     nodes[root as usize].word()
 }
 
-/// Returns the word that phaser `i` has at present, even if the stored one lags.
+/// Returns the word that phaser `i` has at present, even if the stored one is of an earlier phase.
 pub fn word_at(nodes: &[Node], i: usize) -> Word
     requires stored { IsStored nodes.now }
     requires there { i < length nodes.now }
@@ -94,7 +94,7 @@ pub fn word_at(nodes: &[Node], i: usize) -> Word
     brought_up(top, nodes[i].word())
 }
 
-/// Returns the word of a root, which never lags.
+/// Returns the word of a root, which is always of the present phase.
 #[inline(always)]
 pub fn root_word_at(nodes: &[Node], root: usize) -> Word
     requires stored { IsStored nodes.now }
@@ -116,7 +116,7 @@ pub fn view_at(nodes: &[Node], i: usize) -> i32
     top_at(nodes, i).phase_view()
 }
 
-/// Stores another word of the present phase for phaser `i`, which isn't terminated.
+/// Stores another word of the present phase for phaser `i`, which isn't terminated. The other phasers stay as they are.
 pub fn set_word(nodes: &mut [Node], i: usize, word: Word)
     requires stored { IsStored nodes.old }
     requires there { i < length nodes.old }

@@ -106,8 +106,8 @@ pub fn put_back_all(nodes: &mut [Node], saved: &Saved)
     put_back_each(nodes, &saved.kept[..saved.len as usize]);
 }
 
-/// Words are saved before a call at a phaser. If only words from this phaser up to its root have changed since then, the
-/// saved words restore the forest.
+/// A law: words that are saved before a call at a phaser restore the forest after it. The call may have changed words from
+/// this phaser up to its root, and no others.
 #[tactic(auto, using(crate::proofs::Changed::saved_restored))]
 pub fn what_was_saved_is_restored()
     ensures { (id : ℕ) (before after : List Stored) → ChangedAt id before after

@@ -75,7 +75,7 @@ fn is_line(line: &[u8], text: &[u8]) -> bool
 }
 
 impl Comparison {
-    /// Makes a comparison before the trace's first line.
+    /// Makes a comparison before the trace's first line, with a machine in the state in which the run begins.
     pub(crate) fn new(alloc: Global, machine: Machine) -> Comparison
         ensures machine { result.machine ≡ machine }
         ensures start { (result.accepted ≡ true) × (result.is_state ≡ false) }
@@ -96,8 +96,8 @@ impl Comparison {
         }
     }
 
-    /// Plays the choice that a line names. Returns `None` if the run has the same line, and otherwise the verdict. After a
-    /// refused choice any other line of a choice differs.
+    /// Plays the choice that a line names. Returns `None` if the run has the same line: then the rest decides about the trace.
+    /// Otherwise returns the verdict. After a refused choice any other line of a choice differs.
     fn take_choice(&mut self, line: &[u8]) -> Result<Option<Verdict>, AllocError>
         requires number { self.old.number < 9223372036854775807 }
         requires few { length line.now ≤ 65536 }
@@ -130,7 +130,8 @@ impl Comparison {
         Ok(None)
     }
 
-    /// Compares a line with the next one of the state. Returns the verdict if they differ, or no line is left, and else `None`.
+    /// Compares a line with the next one of the state's text. Returns `None` if they are equal: then the rest decides about the
+    /// trace. Otherwise, or if no line of the text is left, returns the verdict.
     fn take_state_line(&mut self, line: &[u8]) -> Option<Verdict>
         requires number { self.old.number < 9223372036854775807 }
         requires few { length line.now ≤ 65536 }
@@ -158,7 +159,8 @@ impl Comparison {
         None
     }
 
-    /// Compares a line, without its LF, with the run's: of a choice or of the state. Returns the verdict if they differ.
+    /// Compares a line, without its LF, with the run's: of a choice or of the state. Returns `None` if they are equal: then the
+    /// rest decides about the trace. Otherwise returns the verdict.
     fn take_line(&mut self, alloc: Global, line: &[u8]) -> Result<Option<Verdict>, AllocError>
         requires number { self.old.number < 9223372036854775807 }
         requires few { length line.now ≤ 65536 }
@@ -188,8 +190,8 @@ impl Comparison {
         Ok(self.take_state_line(line))
     }
 
-    /// Compares bytes that begin with the right number with the line of the choice just played. Returns the line's length, or 0
-    /// if they differ. Then no choice counts as accepted any more.
+    /// Compares bytes, which begin with the choice's number, with the line of the choice just played. Returns the line's
+    /// length, or 0 if they differ. Then the trace differs here, and no choice counts as accepted any more.
     #[inline(always)]
     fn meet(&mut self, bytes: &[u8]) -> usize
         requires room { 120 ≤ length bytes.now }
@@ -214,8 +216,8 @@ impl Comparison {
         0
     }
 
-    /// Plays the choice that the bytes name, and compares its line with them. Returns the line's length, or 0
-    /// if the line is to be read whole. If the lines differ, no choice counts as accepted any more.
+    /// Plays the choice that the bytes name, and compares its line with them. Returns the length of the line, or 0 if
+    /// `take_ended` has to compare it. If they differ, no choice counts as accepted any more.
     #[inline(always)]
     fn take_own_line(&mut self, bytes: &[u8]) -> Result<usize, AllocError>
         requires room { 120 ≤ length bytes.now }
@@ -238,7 +240,7 @@ impl Comparison {
         }
     }
 
-    /// Goes on over lines that are the run's, while 120 bytes are left: no choice's line is longer. Returns their length.
+    /// Passes over lines that are the run's, while 120 bytes are left: no choice's line is longer. Returns how many bytes.
     fn take_own_lines(&mut self, bytes: &[u8]) -> Result<usize, AllocError>
         requires number { self.old.number + length bytes.now < 9223372036854775807 }
         ensures { IfOk result (λ count. GoesOver self.old self.new bytes.now count) }
@@ -257,7 +259,8 @@ impl Comparison {
         Ok(done)
     }
 
-    /// Returns the verdict of a trace that ends with this line of the run, but without an LF: lines or this LF are missing.
+    /// Returns the verdict of a trace that ends with this line of the run, but without an LF: lines or this LF are missing. If
+    /// only the LF is missing, `at` goes back, so that `run_line` returns this line.
     fn end_verdict(&mut self, line: &[u8]) -> Verdict
         requires at { self.old.at ≤ length self.old.text.items }
         requires behind { self.old.is_state ≡ true → StandsBehind self.old line.now }
@@ -312,7 +315,7 @@ impl Comparison {
         }
     }
 
-    /// Compares a line, ended by an LF, by the trace's end or by its length, with the run's. `None`: the trace goes on.
+    /// Compares a line, ended by an LF, by the trace's end or by its length, with the run's. Returns `None` to go on.
     fn take_ended(
         &mut self,
         alloc: Global,
@@ -376,7 +379,7 @@ fn is_one(ended: LineEnded, line: &[u8]) -> bool
     }
 }
 
-/// Returns whether a verdict names the line of this number.
+/// Returns whether a verdict is about the line of this number: `Same` is about no line.
 fn names_line(verdict: Verdict, number: u64) -> bool
     ensures { result ≡ names_line verdict number }
 {
@@ -394,7 +397,7 @@ fn is_read(verdict: Verdict, number: u64, ended: LineEnded, line: &[u8]) -> bool
 }
 
 /// Compares a trace with the run that begins at the machine of `now`. Returns the verdict, and whether the trace's line that it
-/// names is the one that was read last. Equal lines are compared in their block, and any other line is read.
+/// names is the one that was read last. Lines equal to the run's are compared where they are, and any other line is copied.
 pub(crate) fn compare_lines<S: Source>(
     alloc: Global,
     now: &mut Comparison,

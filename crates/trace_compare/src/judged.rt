@@ -35,6 +35,7 @@ impl Model for Judged {
 }
 
 impl Judged {
+    /// Returns whether the trace is the run's, and if it isn't, at which line.
     pub fn verdict(&self) -> Verdict
         ensures { result ≡ self.now.told.verdict }
     {

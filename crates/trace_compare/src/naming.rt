@@ -46,7 +46,7 @@ pub enum NamingFault {
     Read,
 }
 
-/// Returns what a line names. A choice in the last line is cut off, since no state follows.
+/// Returns what a line names that ended like this. A choice in the last line is cut off, since no state follows.
 fn next_by(named: LineNames, ended: LineEnded) -> NextName
     ensures { result ≡ next_by named ended }
 {
@@ -60,7 +60,7 @@ fn next_by(named: LineNames, ended: LineEnded) -> NextName
     }
 }
 
-/// Reads the next line, and returns what it names. Fails if the trace can't be read.
+/// Reads the next line of a trace into `lines`, and returns what it names. Fails if the trace can't be read.
 pub fn next_name<S: Source>(lines: &mut SourceLines, trace: &mut S) -> Result<NextName, Failed>
     ensures thread { (choice : Choice) → (result ≡ Ok (NextName.Made choice)) ⊎ (result ≡ Ok (NextName.CutOff choice))
         → choice.thread ≤ 63 }

@@ -50,7 +50,7 @@ fn put_letter(line: &mut LineEnd, expiry: bool)
     }
 }
 
-/// Writes a run's token, as `t2*3`, and the byte `behind`. `line` is their buffer.
+/// Writes a run's token, as `t2*3`, and after it the byte `behind`. `line` is room for them, whose content doesn't matter.
 pub fn push_token<K: Sink>(
     output: &mut K,
     line: &mut LineEnd,
@@ -68,7 +68,7 @@ pub fn push_token<K: Sink>(
     output.push(line.as_slice())
 }
 
-/// Returns the run `last` with one more `choice`. If that is another choice or the run is full, writes `last` and begins a run.
+/// Returns the run `last` with one more `choice`. If it has another choice or is full, writes it and returns a new run.
 fn take<K: Sink>(
     last: Option<Run>,
     choice: Choice,

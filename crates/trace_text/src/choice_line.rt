@@ -51,7 +51,7 @@ impl ChoiceLine {
         self.text.put_digits(&self.number);
     }
 
-    /// Makes this the line of refused choice `step`. `pc` is its thread's row (`limit`); without it there is no such thread.
+    /// Makes this the line of refused choice `step`: it says `limit` and the thread's row `pc`, or `none` for no such thread.
     pub fn put_refusal(&mut self, step: u64, choice: Choice, pc: Option<u16>)
         requires { step + 1 < 2 ^ 64 }
         ensures { self.new ≡ refusal_text step choice pc }

@@ -75,6 +75,7 @@ impl Digits {
         self.number = number;
     }
 
+    /// Returns how many digits the number has.
     #[inline(always)]
     pub fn count(&self) -> usize
         ensures digits { result ≡ length (decimal self.now) }

@@ -5,8 +5,8 @@ ghost use Rattle.trace_text.specs.Expectation.{end_words, is_expectation, subjec
 
 use line_reader::words::length_before;
 
-/// Returns what a word for a run's end requires in the line `state`, or `None` for any other text. `ended`, as `all`, requires
-/// ` all`; that no thread has died is checked elsewhere.
+/// Returns what the line `state` has to contain if an expectation is this word for a run's end. `None`: it is no such word.
+/// `ended` is read as `all`: that no thread has died is checked elsewhere.
 pub fn end_words(text: &[u8]) -> Option<&'static [u8]>
     ensures { option_map (λ (words : Bor (List ℕ)). words.now) result ≡ end_words text.now }
 {

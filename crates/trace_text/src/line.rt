@@ -52,7 +52,7 @@ fn put_what(line: &mut LineEnd, what: What)
     }
 }
 
-/// Puts ` +p`, a root's number, a space and its view before the line: the root's phase has ended, or it is terminated.
+/// Puts ` +p`, a root's number, a space and its `getPhase` before the line: the root's phase has ended, or it is terminated.
 #[inline(always)]
 fn put_phase(line: &mut LineEnd, root: u8, view: i32)
     requires { length line.old + 35 ≤ 192 }
@@ -178,7 +178,7 @@ pub(super) fn put_refused(line: &mut LineEnd, choice: Choice, pc: Option<u16>)
     put_thread(line, choice);
 }
 
-/// Makes this the line of refused choice number `step`. `pc` is its thread's row (`limit`); without it there is no such thread.
+/// Makes this the line of refused choice `step`: it says `limit` and the thread's row `pc`, or `none` for no such thread.
 pub fn put_refusal(line: &mut LineEnd, step: u64, choice: Choice, pc: Option<u16>)
     ensures { line.new ≡ refusal_text step choice pc }
 {
@@ -186,7 +186,7 @@ pub fn put_refusal(line: &mut LineEnd, step: u64, choice: Choice, pc: Option<u16
     line.put_count(step);
 }
 
-/// Appends the line of choice number `step`, which a thread at row `pc` has played. Without memory `text` is as before.
+/// Appends the line of choice number `step`, which a thread at row `pc` has played. `Err`: no memory, and `text` is as before.
 pub fn event_line(
     text: &mut Vec<u8>,
     step: u64,
@@ -202,7 +202,7 @@ pub fn event_line(
     text.extend_from_slice(line.as_slice())
 }
 
-/// Appends the line of refused choice number `step`. `pc` is its thread's row (`limit`); without it there is no such thread.
+/// Appends the line of refused choice `step`: it says `limit` and the thread's row `pc`, or `none` for no such thread.
 pub fn refusal_line(
     text: &mut Vec<u8>,
     step: u64,

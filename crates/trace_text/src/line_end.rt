@@ -46,6 +46,7 @@ impl LineEnd {
         self.start = ROOM;
     }
 
+    /// Returns the bytes that the line has so far.
     pub fn as_slice(&self) -> &[u8]
         ensures { result.now ≡ self.now }
     {

@@ -7,7 +7,7 @@ use crate::run_end::RunEnd;
 use crate::state_line::{has_died, has_whole, line_of};
 use thread_machine::Standing;
 
-/// Returns whether the state's line that begins with `subject` has `words` in a row. Words of a list go on to the list's end.
+/// Returns whether a line of the state begins with `subject` and has `words` in a row. In a list, these have to reach its end.
 fn says(state: &[u8], subject: &[u8], words: &[u8]) -> bool
     ensures { result ≡ says state.now subject.now words.now }
 {

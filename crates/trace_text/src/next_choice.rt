@@ -13,6 +13,7 @@ pub fn rest_of(text: &[u8], at: usize) -> &[u8]
     &text[at..]
 }
 
+/// Returns the first `count` bytes of a text.
 pub fn first_bytes(text: &[u8], count: usize) -> &[u8]
     requires { count ≤ length text.now }
     ensures { result.now ≡ take count text.now }
@@ -68,7 +69,7 @@ pub fn begins_with<const N: usize>(bytes: &[u8], text: &[u8]) -> bool
     first == text
 }
 
-/// Returns the choice whose name, as ` t0 ` or ` x63 `, begins these bytes, or `None`.
+/// Returns the choice whose name, as ` t0 ` or ` x63 `, begins these bytes. `None`: they begin otherwise, or are too few.
 #[inline(always)]
 fn choice_between_spaces(bytes: &[u8]) -> Option<Choice>
     ensures { IfSome result (λ choice. BeginsWithName bytes.now choice) }
@@ -97,7 +98,7 @@ fn choice_between_spaces(bytes: &[u8]) -> Option<Choice>
     Some(Choice { thread, expiry })
 }
 
-/// Returns the choice that follows `number` at the start of these bytes, as ` t0 `. `None`: the line has to be read whole.
+/// Returns the choice named after `number` at the start of a line, as t0 in `7 t0 `. `None`: the caller reads the line whole.
 #[inline(always)]
 pub fn choice_behind(bytes: &[u8], number: &[u8]) -> Option<Choice>
     requires { length number.now ≤ length bytes.now }

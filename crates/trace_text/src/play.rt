@@ -23,7 +23,7 @@ pub enum PlayFault {
     Write,
 }
 
-/// Writes a line that is already made.
+/// Writes a complete line. It fails only with `Write`.
 fn push_line<W: Sink>(line: &[u8], output: &mut W) -> Result<(), PlayFault>
     ensures line { OnOk result (Appends (W.written output.old) (W.written output.new) line.now) }
     ensures write { result ≡ Err PlayFault.Write → IsTrue (W.has_failed output.new) }
@@ -78,7 +78,7 @@ fn push_refusal<W: Sink>(
     push_line(line.as_slice(), output)
 }
 
-/// Plays one choice and writes its line, also if it is refused. `line` is its buffer. Returns the refused choice, or `None`.
+/// Plays one choice and writes its line, also if it is refused. `Some`: it was refused, and why. `line` is only the buffer.
 #[inline(always)]
 fn play_choice<W: Sink>(
     machine: &mut Machine,
@@ -140,7 +140,7 @@ pub fn line_of_choice(
     }
 }
 
-/// Plays the choice of an existing thread, and makes its line without the number. Returns false, and no line, if refused.
+/// Plays the choice of an existing thread, and makes its line without the number. `false`: it was refused; there is no line.
 #[inline(always)]
 pub fn own_line_of_choice(
     machine: &mut Machine,
@@ -164,7 +164,7 @@ pub fn own_line_of_choice(
     }
 }
 
-/// Plays one choice as often as the run says, up to a refusal, and writes the lines. Returns the refused choice, or `None`.
+/// Plays one choice as often as the run says, and writes the lines. `Some`: this choice was refused, and the rest isn't played.
 fn play_run<W: Sink>(
     machine: &mut Machine,
     run: &Run,
@@ -190,7 +190,7 @@ fn play_run<W: Sink>(
     Ok(None)
 }
 
-/// Plays runs and writes their lines, up to a refused choice, which it returns.
+/// Plays runs and writes their lines. `Some`: this choice was refused, and the rest isn't played.
 pub(crate) fn play_runs<W: Sink>(
     machine: &mut Machine,
     runs: &[Run],

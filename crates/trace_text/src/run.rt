@@ -43,6 +43,7 @@ pub enum RunFault {
 }
 
 impl RunFault {
+    /// Returns a fault of playing choices as the fault of the whole run.
     fn of_play(fault: PlayFault) -> RunFault
         ensures { result ≡ played_fault fault }
     {
@@ -53,7 +54,7 @@ impl RunFault {
     }
 }
 
-/// Returns the fault that the reader of the schedule returned, or if it returned none, the choice that was refused, if any.
+/// Returns `told`, what the reader of a schedule returned, if that is a fault, and otherwise the refused choice, or `None`.
 fn told_of(
     told: Result<(), ScheduleFault>,
     refused: Option<Refused>,
@@ -69,7 +70,7 @@ fn told_of(
 }
 
 /// Plays the runs that a reader appended to the list, unless a choice was refused before, and empties the list. Then returns
-/// the reader's fault, `told`, if it has one, and otherwise the choice that was refused, now or before.
+/// the reader's fault, `told`, if it has one, and otherwise the refused choice, or `None` if none was refused.
 fn play_told<W: Sink>(
     machine: &mut Machine,
     refused: Option<Refused>,
@@ -97,7 +98,8 @@ fn play_told<W: Sink>(
     }
 }
 
-/// Reads a schedule to its end, even after a refused choice, to find its faults. Plays it up to that choice, and returns it.
+/// Reads a schedule to its end, even after a refused choice, to find its faults. Plays it up to that choice, and returns it, or
+/// `None` if no choice was refused.
 fn play_stream<S: Source, W: Sink>(
     machine: &mut Machine,
     schedule: &mut S,
@@ -132,6 +134,7 @@ fn play_stream<S: Source, W: Sink>(
             Err(fault) => return Err(fault),
         }
     }
+    // The schedule doesn't end: it counts as one that can't be read.
     Err(RunFault::Read)
 }
 
@@ -179,7 +182,7 @@ pub fn run_to_end<S: Source, W: Sink>(
     }
 }
 
-/// Plays an image's program under a schedule, and writes the trace, for a caller that needn't know how the run ended.
+/// Plays an image's program under a schedule, and writes the trace. The caller needn't know how the run ended (`_end`).
 pub fn run_text<S: Source, W: Sink>(
     alloc: Global,
     image: Image,

@@ -34,7 +34,7 @@ pub struct RunEnd {
     pub refused: Option<Refusal>,
 }
 
-/// Returns the row that a choice's thread is at, if there is such a thread.
+/// Returns the row that a choice's thread is at. `None`: there is no such thread.
 fn row_of(machine: &Machine, choice: Choice) -> Option<u16>
     ensures { result ≡ row_of (world_of machine.now) choice }
 {

@@ -186,7 +186,7 @@ fn add_parties(text: &mut Vec<u8>, forest: &Forest, id: PhaserId) -> Result<(), 
     text.extend_from_slice(b"\n")
 }
 
-/// Appends the line of a phaser: its number, its view and its parties, as `p0 1 2 0 2`.
+/// Appends the line of a phaser, as `p0 1 2 0 2`: its number, what `getPhase` returns, and its parties.
 fn add_phaser(text: &mut Vec<u8>, forest: &Forest, id: PhaserId) -> Result<(), AllocError>
     requires { id.0 < length forest.now }
     ensures { OnOk result (text.new.items
@@ -197,7 +197,7 @@ fn add_phaser(text: &mut Vec<u8>, forest: &Forest, id: PhaserId) -> Result<(), A
     add_parties(text, forest, id)
 }
 
-/// Appends the lines of all phasers.
+/// Appends the lines of all phasers. The first call only tells the proof that there are at most 64.
 fn add_phasers(text: &mut Vec<u8>, forest: &Forest) -> Result<(), AllocError>
     ensures { OnOk result (text.new.items
         ≡ text.old.items ++ numbered_texts phaser_text 0 (phasers_of forest.now)) }

@@ -79,7 +79,7 @@ fn first_line(text: &[u8]) -> &[u8]
     &text[..length_before(b'\n', text)]
 }
 
-/// Returns the first line after the text's first one that begins with the word `subject`, without its LF, or `None`.
+/// Returns the first line, but not the text's first one, that begins with the word `subject`, without its LF, or `None`.
 fn later_line<'a>(subject: &[u8], text: &'a [u8]) -> Option<&'a [u8]>
     ensures { option_map (λ (line : Bor (List ℕ)). line.now) result ≡ later_line subject.now text.now }
 {

@@ -39,7 +39,7 @@ fn choice_of_digits(expiry: bool, digits: &[u8]) -> Option<Choice>
     }
 }
 
-/// Returns the choice that a name as `t2` or `x2` stands for, or `None`.
+/// Returns the choice that a name as `t2` or `x2` stands for. `None`: it is no such name.
 fn choice_named(name: &[u8]) -> Option<Choice>
     ensures { result ≡ choice_named name.now }
 {
@@ -75,7 +75,7 @@ fn digits_before(line: &[u8]) -> usize
     }
 }
 
-/// Returns the choice that a line names after its number of 1 to 13 digits, as t0 in `7 t0 1 out 1`, or `None`.
+/// Returns the choice that a line names after its number of 1 to 13 digits, as t0 in `7 t0 1 out 1`. `None`: it names none.
 pub fn choice_in(line: &[u8]) -> Option<Choice>
     ensures { result ≡ choice_in line.now }
 {

@@ -63,6 +63,7 @@ pub enum NoCommand {
 }
 
 impl From<AllocError> for NoCommand {
+    /// Turns missing memory into `NoCommand::Memory`, so that `?` can pass it on.
     fn from(_error: AllocError) -> NoCommand {
         NoCommand::Memory
     }
@@ -74,7 +75,8 @@ fn push_word(rt: &HostRuntime, words: &mut Vec<String>, word: &str) -> Result<()
     Ok(())
 }
 
-/// Reads the argument of this number into the room, which is made larger only for a long one: clearing it takes time.
+/// Reads the argument of this number into `room`, and returns its length. The inner error says that there is no such argument,
+/// or it is too long. The room grows only for a long argument: clearing it takes time.
 fn read_word(
     rt: &HostRuntime,
     number: usize,
@@ -135,23 +137,25 @@ fn push_help(rt: &HostRuntime, text: &str) -> u8 {
     }
 }
 
-/// Writes a text to standard error without its blank lines: a failure has at most five lines. It is also without what `clap` guesses
-/// if more is known, and without its way to give a word that begins like an option as a value: no command takes one.
+/// Writes an error's text to standard error without blank lines: a failure has at most five lines. It leaves out `clap`'s tips,
+/// which guess, if a better one follows (`is_known`); and always the tip for words that begin like an option.
 fn push_without_blank_lines(rt: &HostRuntime, text: &str, is_known: bool) {
     let mut errors = WritePort::new(printable::errors(rt));
     for line in text.split('\n') {
         let said = line.trim_ascii();
         let is_tip = said.starts_with("tip: to pass ") || is_known && said.starts_with("tip: ");
         if !said.is_empty() && !is_tip {
+            // If standard error can't be written, nobody can be told so: the result is dropped.
             let _ = errors.push(line.as_bytes());
             let _ = errors.push(b"\n");
         }
     }
 }
 
-/// Whether a plan or a STATE has no quotes: an option for one has two words behind it, the second of which isn't the name of a program,
-/// or a word ends with a dot that isn't behind an option.
+/// Returns whether a plan or a STATE has no quotes. Then its option has two words behind it, of which the second names no
+/// program; or a word ends with a dot, but isn't behind an option.
 fn lack_quotes(words: &[String]) -> bool {
+    // 1 after `--plan` or `--expect`, 2 after its first word, 3 after another option, and 0 after other words.
     let mut before = 0;
     for word in words {
         let word = word.as_str();
@@ -169,7 +173,7 @@ fn lack_quotes(words: &[String]) -> bool {
     false
 }
 
-/// Whether a word begins like an option, but with one hyphen, as `-plan`, or with a dash, as a text on paper has it.
+/// Returns whether a word begins like an option, but with one hyphen, as `-plan`, or with a dash, as a text on paper has it.
 fn have_other_dash(words: &[String]) -> bool {
     words.iter().any(|word| matches!(
         word.as_bytes(),
@@ -177,8 +181,8 @@ fn have_other_dash(words: &[String]) -> bool {
     ))
 }
 
-/// Returns what may have been meant: a file is no command, texts with blanks are quoted, and options have names. `wrong` is the word
-/// that the error is about.
+/// Returns a line of advice on wrong arguments, or None: a file is no command, texts with blanks are quoted, and options have
+/// names. `wrong` is the word that the error is about.
 fn help_with(
     rt: &HostRuntime,
     kind: ErrorKind,
@@ -217,6 +221,7 @@ impl NoCommand {
                 let help = help_with(rt, error.kind(), words, wrong).unwrap_or(None);
                 push_without_blank_lines(rt, text.as_str(), help.is_some());
                 if let Some(help) = help {
+                    // Advice that can't be written is left out.
                     let _ = WritePort::new(printable::errors(rt)).push(help.as_bytes());
                 }
                 WRONG_WORDS

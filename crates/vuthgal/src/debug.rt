@@ -27,7 +27,7 @@ use workbench::done::{Done, as_asked};
 use workbench::ending::flushed;
 use workbench::fault::{Fault, push_counted_line};
 
-/// Carries out commands on an image's program, after runs of choices if there are some. Each line is written at once.
+/// Carries out `commands` on an image's program, after these runs of choices, if any. Each reply is written at once.
 fn session<C: Companion>(
     report: &Report<'_>,
     file: ProgramFile<'_>,
@@ -51,7 +51,7 @@ fn commands<'a>(report: &'a Report<'_>) -> Result<BlockSource<ReadPort<Stream<'a
     )
 }
 
-/// The session of a person. Besides the replies it shows which threads can go on.
+/// Carries out a person's commands. Besides the replies it shows which threads can go on.
 fn session_of_person(
     report: &Report<'_>,
     file: ProgramFile<'_>,
@@ -73,7 +73,7 @@ fn session_of_person(
     }
 }
 
-/// The session after the choices of a trace, which are played as they are read.
+/// Carries out commands after the choices of a trace, which are played as they are read. Returns `Unlike` if it is no trace.
 fn session_at(
     report: &Report<'_>,
     file: ProgramFile<'_>,
@@ -94,7 +94,7 @@ fn session_at(
     Ok(done)
 }
 
-/// Writes which line is the first that is no line of a trace.
+/// Writes `not a trace` and the number of the first line that no trace has there. Returns `Unlike`, which is status 1.
 fn end_without_trace<S>(
     report: &Report<'_>,
     name: &str,
@@ -108,7 +108,7 @@ fn end_without_trace<S>(
     Ok(Done::Unlike)
 }
 
-/// The session of a person after the choices of a trace, which are kept for `w`.
+/// Carries out a person's commands after the choices of a trace. They are read first, because the command `w` writes them.
 fn session_of_person_at(
     report: &Report<'_>,
     file: ProgramFile<'_>,
@@ -130,6 +130,7 @@ fn greet(report: &Report<'_>, program: &Program<'_>) -> Result<(), Reported>
     requires { IsNamedProgram program.now.bytes.now program.now.image program.now.names }
 {
     let mut errors = WritePort::new(printable::errors(report.rt));
+    // A note that can't be written doesn't end the session.
     let _ = errors.push(if is_image_file(program.bytes) {
         b"row\n".as_slice()
     } else {

@@ -22,8 +22,8 @@ use trace_text::state_line::{has_died, line_of};
 use workbench::done::Done;
 use workbench::fault::Fault;
 
-/// Appends the word that begins the line of what has this name, or the name itself if nothing has it. A declared name goes
-/// before a number, so `t0` is thread 0 only if nothing else has this name.
+/// Appends the word that begins an object's line in the state, as `t0`, for the object's name; or the name itself if nothing
+/// has it. A declared name goes before a number: `t0` is thread 0 only if nothing else has this name.
 fn push_subject(text: &mut Vec<u8>, symbols: &Symbols<'_>, name: &[u8]) -> Result<(), AllocError> {
     for index in 0..symbols.len() {
         let Some(symbol) = symbols.get(index) else {
@@ -39,7 +39,7 @@ fn push_subject(text: &mut Vec<u8>, symbols: &Symbols<'_>, name: &[u8]) -> Resul
     text.extend_from_slice(name)
 }
 
-/// Returns a STATE with the word of its object's line instead of a name, as `t0 waits` for `ann waits`, and single blanks.
+/// Returns a STATE with the number of its object in place of the name, as `t0 waits` for `ann waits`, and single blanks.
 fn numbered(alloc: Global, symbols: &Symbols<'_>, state: &str) -> Result<Vec<u8>, AllocError> {
     let text = spaced(alloc, state)?;
     if end_words(text.as_slice()).is_some() {
@@ -51,7 +51,7 @@ fn numbered(alloc: Global, symbols: &Symbols<'_>, state: &str) -> Result<Vec<u8>
     Ok(numbered)
 }
 
-/// Returns what is expected of a run of a program with these names, by the numbers of its objects.
+/// Returns the texts of `--expect STATE`, with numbers in place of the names of a program's objects.
 pub fn expectations(
     report: &Report<'_>,
     names: &Symbols<'_>,
@@ -70,7 +70,7 @@ pub fn expectations(
     Ok(expected)
 }
 
-/// Whether a run ended as each of these texts expects.
+/// Returns whether a run ended as each of these texts expects.
 fn are_as_expected(expected: &[Vec<u8>], end: &RunEnd) -> bool
     ensures { result ≡ are_as_expected expected.now end.now }
 {
@@ -90,7 +90,7 @@ pub fn as_expected(expected: &[Vec<u8>], end: &RunEnd) -> Done
     }
 }
 
-/// Returns the line of a state that differs from what a text expects, or nothing if there is no such line.
+/// Returns the line of a final state that differs from what a text expects. None if the state has no line for it.
 fn line_against<'a>(state: &'a [u8], text: &[u8]) -> Option<&'a [u8]> {
     if end_words(text).is_none() {
         return line_of(state, subject_of(text));
@@ -103,7 +103,7 @@ fn line_against<'a>(state: &'a [u8], text: &[u8]) -> Option<&'a [u8]> {
     line_of(state, b"state")
 }
 
-/// Adds each text that isn't met, with the seed of the run, if its order has one, and the line that says otherwise.
+/// Writes a line for each text that isn't met: the text, the seed of the run if it has one, and the line that says otherwise.
 fn push_all_unmet<E: Sink>(
     errors: &mut E,
     expected: &[Vec<u8>],
@@ -127,7 +127,7 @@ fn push_all_unmet<E: Sink>(
     Ok(())
 }
 
-/// What helps if a run ended so, and this was expected of it.
+/// Returns advice for a run that ended with this standing, where `text` was expected.
 fn helps_at_end(text: &[u8], standing: Standing, has_seed: bool) -> &'static str {
     match standing {
         _ if has_seed => "`vuthgal draw FILE --plan '?SEED'` draws the run of this seed",
@@ -152,7 +152,7 @@ fn note_unmet(report: &Report<'_>, program: &[u8], text: &[u8], end: &RunEnd, ha
     );
 }
 
-/// What is near to the word that names the line of a state.
+/// Returns the line `near: NAME` with the declared name nearest to the one that a STATE begins with. None if none is near.
 fn hint_at_subject(alloc: Global, program: &[u8], subject: &[u8]) -> Hint {
     let names = names_in(alloc, program, None)?;
     match nearest_of(alloc, names.as_slice(), subject)?.meant {
@@ -161,7 +161,8 @@ fn hint_at_subject(alloc: Global, program: &[u8], subject: &[u8]) -> Hint {
     }
 }
 
-/// Reports each text that a run's end doesn't meet, in a line, and to a person what helps at the first. An order has a seed.
+/// Reports each text that a run's end doesn't meet, in a line, and to a person what helps at the first. `seed` is that of a run
+/// in random order. If standard error can't be written, that isn't reported.
 pub fn report_unmet(
     report: &Report<'_>,
     program: &[u8],

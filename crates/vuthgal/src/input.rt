@@ -30,7 +30,7 @@ pub fn block_port<'a>(report: &'a Report<'_>) -> Result<OutputBlocks<'a>, Report
     BlockPort::new(report.alloc(), output).map_err(|_| report.fault(Fault::Memory))
 }
 
-/// Opens the file of this name.
+/// Opens the file of this name to read it, or reports why it can't be opened.
 pub fn open(report: &Report<'_>, name: &str) -> Result<File, Reported> {
     fs::open(report.rt, name).map_err(|error| files::fail_to_open(report, name, &error))
 }
@@ -40,12 +40,12 @@ pub fn stream<'a>(report: &'a Report<'_>, name: &str) -> Result<Stream<'a>, Repo
     Ok(Stream::File(report.kept(open(report, name)?)))
 }
 
-/// Returns standard input as a stream.
+/// Returns standard input as a stream. The system's reason is kept if a read fails.
 pub fn standard<'a>(report: &'a Report<'_>) -> Stream<'a> {
     Stream::Standard(report.kept(report.rt.stdin()))
 }
 
-/// Opens what an argument names: standard input for `-`, which is waited for with these words. Returns it with its name.
+/// Opens what an argument names: a file, or standard input for `-`; then a person reads `waiting`. Returns it with its name.
 pub fn named<'a, 'b>(
     report: &'a Report<'_>,
     word: &'b str,
@@ -64,14 +64,14 @@ pub fn contents(report: &Report<'_>, name: &str, stream: Stream<'_>) -> Result<V
     read_all(report.alloc(), &mut ReadPort::new(stream)).map_err(failed)
 }
 
-/// Returns the program of a file.
+/// Returns the program of a file, which is a text or an image, or reports why it has none.
 pub fn program<'a>(report: &Report<'_>, file: ProgramFile<'a>) -> Result<Program<'a>, Reported>
     ensures { IfOk result (λ program. IsNamedProgram program.bytes.now program.image program.names) }
 {
     program_in(report.alloc(), file.text).map_err(|fault| fail_to_read(report, file, fault))
 }
 
-/// Returns the program of a text, also if it begins as an image does.
+/// Returns the program of standard input, which is read as a text even if it begins as an image does.
 pub fn text<'a>(report: &Report<'_>, file: ProgramFile<'a>) -> Result<Program<'a>, Reported>
     ensures { IfOk result (λ program. StandsFor program.bytes.now program.image) }
 {

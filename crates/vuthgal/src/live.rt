@@ -24,7 +24,7 @@ use workbench::racing::pace::NoPace;
 const LIMIT_ENDS: &str =
     "live: some threads could still continue, but the limit of steps was reached; `--limit N` sets it";
 
-/// Plays an image's program on real threads, which pause a little if there is a seed.
+/// Plays an image's program once on real threads, and writes the trace. With a seed the threads pause a little.
 fn played<R: Threads + Wait + Sync>(
     threads: &R,
     report: &Report<'_>,
@@ -44,7 +44,7 @@ fn played<R: Threads + Wait + Sync>(
     }
 }
 
-/// Plays it `asked.runs` times, and writes how the runs ended.
+/// Plays the program `asked.runs` times, and writes how the runs ended. Returns `Unlike` if one didn't end as expected.
 fn played_often<R: Threads + Wait + Sync>(
     threads: &R,
     report: &Report<'_>,
@@ -67,8 +67,8 @@ fn played_often<R: Threads + Wait + Sync>(
     }
 }
 
-/// Plays the program in a file on real threads: once, and writes the trace, or `runs` times, and writes how the runs ended. By a
-/// `seed` the threads pause a little before some of their turns.
+/// Plays the program in a file on real threads: once, and writes the trace, or `runs` times, and writes how the runs ended. By
+/// a `seed` the threads pause a little before some of their turns.
 pub fn live<R: Threads + Wait + Sync>(
     threads: &R,
     report: &Report<'_>,

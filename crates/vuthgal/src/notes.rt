@@ -5,7 +5,7 @@ use command_line::ports::printable;
 use fault_reports::report::Report;
 use std::io::IsTerminal;
 
-/// Writes a text to standard error if it is a terminal.
+/// Writes a text to standard error if that is a terminal. A note that can't be written is left out.
 fn push_note(rt: &HostRuntime, text: &[u8]) {
     if rt.stderr().is_terminal() {
         let _ = WritePort::new(printable::errors(rt)).push(text);

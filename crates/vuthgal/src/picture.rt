@@ -22,7 +22,7 @@ use workbench::done::Done;
 use workbench::ending::flushed;
 use workbench::fault::Fault;
 
-/// Writes the picture of a program under a schedule. It is written at once, so nothing is kept back.
+/// Writes the picture of a program under a schedule. A person is told, too, which choice's thread doesn't exist.
 fn made<P: Picture>(
     report: &Report<'_>,
     picture: &P,

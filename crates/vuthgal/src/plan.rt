@@ -68,6 +68,7 @@ pub fn plan(
     };
     let failed = |why| fail_at_plan(report, file, names.as_slice(), plan, why);
     match flushed(Ok(planned.map_err(failed)?), &mut output) {
+        // True means that the plan needed more choices than it may make, and stopped.
         Ok(false) => Ok(Done::AsAsked),
         Ok(true) => {
             report_stopped(report, plan);
@@ -77,7 +78,7 @@ pub fn plan(
     }
 }
 
-/// Returns the result of orders with these expectations. The first run that ended differently is reported.
+/// Returns `AsAsked` if all orders of seeds ended as expected. Else reports the first that didn't, and returns `Unlike`.
 fn settled_by(
     report: &Report<'_>,
     program: &[u8],

@@ -76,7 +76,8 @@ impl<'a> Choices<'a> {
     }
 }
 
-/// Returns the result of a run that ended so, and reports a person what `live` means then, or else what isn't as expected.
+/// Returns `Unlike` if a run didn't end as expected, and reports that, else `AsAsked`. If a thread can still continue then, a
+/// person reads `live`.
 pub fn ended(
     report: &Report<'_>,
     program: &[u8],
@@ -147,8 +148,7 @@ fn play_plan(
     }
 }
 
-/// Plays the program in a file, or on standard input with its schedule, if no file is named. Standard input is always a text: only
-/// a file may be an image.
+/// Plays the program in a file, or without a file the text on standard input, with its schedule. Only a file may be an image.
 pub fn run<'a>(
     report: &'a Report<'_>,
     name: Option<&'a str>,

@@ -69,7 +69,8 @@ pub fn opened<'a>(
 }
 
 impl<'a> OpenSteps<'a> {
-    /// Returns what is read of a file as a program, and the schedule after the text's line `.run`, if no other is named.
+    /// Returns the part of a file that is its program, and the schedule below its line `.run`. If another schedule or trace is
+    /// named, the whole file is the program, and the schedule is empty.
     pub fn parts<'b>(&self, file: &'b [u8]) -> (&'b [u8], &'b [u8]) {
         match self {
             OpenSteps::Named(_, _) => (file, &[]),
@@ -78,8 +79,7 @@ impl<'a> OpenSteps<'a> {
     }
 }
 
-/// Returns the names of a program's threads by number, for the report of a plan that is refused. A thread without a name has an
-/// empty one.
+/// Returns the names of a program's threads by number, for a report. A thread without a name has an empty one.
 pub fn names_of<'a>(report: &Report<'_>, program: &Program<'a>) -> Result<Vec<&'a [u8]>, Reported> {
     let threads = program.image.threads.as_slice().len();
     thread_names(report.alloc(), &program.names, threads.min(MOST_THREADS)).map_err(

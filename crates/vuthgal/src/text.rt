@@ -23,13 +23,13 @@ use workbench::fault::Fault;
 /// The status if no line has the words that are to be explained.
 const NO_LINE: u8 = 2;
 
-/// Whether two open files are one, by whatever names, and of the kind that keeps what is written to it.
+/// Returns whether two open files are the same regular file, by whatever names: writing one would destroy the other.
 fn are_one(source: &File, image: &File) -> io::Result<bool> {
     let (source, image) = (source.metadata()?, image.metadata()?);
     Ok(image.is_file() && source.dev() == image.dev() && source.ino() == image.ino())
 }
 
-/// Makes a file empty, if it is of the kind that keeps what is written to it.
+/// Makes a file empty if it is a regular one. A pipe or a terminal keeps nothing.
 fn make_empty(file: &File) -> io::Result<()> {
     if file.metadata()?.is_file() {
         file.set_len(0)?;
@@ -63,8 +63,8 @@ fn write_image(report: &Report<'_>, text: &[u8], file: File) -> Result<(), Fault
     )
 }
 
-/// Writes the image of the text in one file to another. Both are opened first. The image's is closed before a failure is reported,
-/// since it may have the number of standard error if that was closed.
+/// Writes the image of the text in one file to another. Both are opened first. The image's file is closed before a failure is
+/// reported: it may have the number of standard error if that was closed.
 pub fn asm(report: &Report<'_>, source: &str, image: &str) -> Result<Done, Reported> {
     let input = input::open(report, source)?;
     let out = create(report, image, &input)?;
@@ -103,7 +103,7 @@ fn words_of<'a>(alloc: Global, texts: &[&'a str]) -> Result<Vec<&'a str>, AllocE
     Ok(words)
 }
 
-/// Writes what words mean, or else what was meant by them. Returns whether that is known.
+/// Writes what words mean, or else what was meant by them. Returns false, and writes nothing, if neither is known.
 fn push_explained<W: Sink>(alloc: Global, texts: &[&str], output: &mut W) -> Result<bool, Fault> {
     let words = words_of(alloc, texts).map_err(|_| Fault::Memory)?;
     if push_entry(&tables(), words.as_slice(), output).map_err(|_| Fault::Write)? {
@@ -116,7 +116,7 @@ fn push_explained<W: Sink>(alloc: Global, texts: &[&str], output: &mut W) -> Res
     push_entry(&tables(), sought.as_slice(), output).map_err(|_| Fault::Write)
 }
 
-/// Reports that no line has the words of these texts, and what can be asked instead.
+/// Reports that `explain` doesn't know the words of these texts, and what can be asked. A failed write isn't reported.
 fn fail_without_line(report: &Report<'_>, texts: &[&str]) -> Reported {
     let mut errors = WritePort::new(printable::errors(report.rt));
     let words = words_of(report.alloc(), texts).unwrap_or(Vec::new(report.alloc()));

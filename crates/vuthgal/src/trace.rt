@@ -16,7 +16,7 @@ use workbench::compare::done_by;
 use workbench::done::Done;
 use workbench::ending::{flushed, passed_on};
 
-/// Compares a trace with the run of the program in a file, and shows the lines that differ if asked for.
+/// Compares a trace with the run of the program in a file, and shows the lines that differ if `is_shown`.
 pub fn compare(
     report: &Report<'_>,
     name: &str,
@@ -47,7 +47,7 @@ pub fn compare(
     Ok(done_by(verdict))
 }
 
-/// Writes the schedule of a trace.
+/// Writes the schedule of a trace. Returns `Unlike`, which is status 1, if the file is no trace.
 pub fn choices(report: &Report<'_>, trace: &str) -> Result<Done, Reported> {
     let (name, stream) = input::named(report, trace, b"")?;
     let mut watched = Watched::new(report.alloc(), ReadPort::new(stream), 0);

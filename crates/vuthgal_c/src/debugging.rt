@@ -6,7 +6,7 @@ use std::alloc::Global;
 use workbench::debug_cmd;
 use workbench::slice_source::SliceSource;
 
-/// Writes the replies to `commands` to `output`, a fault to `line`, as far as they fit, and their lengths. Returns the status.
+/// Writes the replies to `commands` and a fault's line, as far as they fit, and their lengths. Returns 0, or 3 to 5.
 #[unsafe(no_mangle)]
 pub extern "C" fn vuthgal_debug(
     alloc: Global,

@@ -12,7 +12,7 @@ use std::alloc::Global;
 use workbench::done::settled_as_asked;
 use workbench::fault::Fault;
 
-/// Writes the drawing of the program in a file under a schedule. If one of them has more than 16,777,216 bytes, it is `Read`.
+/// Writes the drawing of `file`'s program under `schedule`. Fails with `Read` if one of the two has more than 16,777,216 bytes.
 fn drawn<K: Sink>(
     alloc: Global,
     width: u16,
@@ -38,8 +38,7 @@ fn drawn<K: Sink>(
     }
 }
 
-/// Writes a drawing of `width` columns to `output` and a fault to `line`, as far as they fit, and their lengths. Returns the
-/// status.
+/// Writes a drawing within `width` columns and a fault's line, as far as they fit, and their lengths. Returns 0, or 3 to 5.
 #[unsafe(no_mangle)]
 pub extern "C" fn vuthgal_draw(
     alloc: Global,

@@ -26,8 +26,8 @@ fn words_of(alloc: Global, text: &str) -> Result<Vec<&str>, AllocError>
     Ok(words)
 }
 
-/// Writes the entry of these tables that a text's words request. Returns whether there is one: false if it isn't UTF-8. If it is
-/// too long, it isn't read (`Read`).
+/// Writes the entry of these tables for which the words of `text` ask. Returns whether there is one: false, too, if `text`
+/// isn't UTF-8. Fails with `Read` if `text` has more than 65,536 bytes.
 fn explained<K: Sink>(
     alloc: Global,
     tables: &[&[Entry]],
@@ -51,7 +51,7 @@ fn explained<K: Sink>(
     }
 }
 
-/// Returns the status: 0, or 2 with a line if there is no entry, or that of the fault, whose line goes to `line`.
+/// Returns the exit status: 0 if an entry was written, 2 if there is none, or a fault's. Unless it is 0, `line` says why.
 fn settled<E: Sink>(answer: Result<bool, Fault>, line: &mut E) -> u8
     ensures { SettlesExplaining NO_LINE.now answer result (E.has_failed line.new) (E.written line.old) (E.written line.new) }
 {
@@ -65,7 +65,7 @@ fn settled<E: Sink>(answer: Result<bool, Fault>, line: &mut E) -> u8
     }
 }
 
-/// Writes what `words` mean to `output` and a fault to `line`, as far as they fit, and their lengths. Returns the status.
+/// Writes what `words` mean and a fault's line, as far as they fit, and their lengths. Returns 0, 2 if unknown, 4 or 5.
 #[unsafe(no_mangle)]
 pub extern "C" fn vuthgal_explain(
     alloc: Global,

@@ -18,7 +18,7 @@ pub fn is_within(bytes: &[u8]) -> bool
     bytes.len() <= MOST_BYTES
 }
 
-/// Returns the program in a file, an image or a text. Its contract says in one clause all that is promised of the program.
+/// Returns the program in a file, an image or a text. It only calls `program_in`, but has a shorter contract for its callers.
 pub fn whole_program(alloc: Global, file: &[u8]) -> Result<Program<'_>, Fault>
     ensures program { IfOk result (λ program. IsProgramIn file.now program) }
     ensures none { IfErr result (λ fault. IsNoProgramFor fault file.now) }

@@ -29,7 +29,7 @@ enum NotThere {
 }
 
 impl NotThere {
-    /// Returns the status of the call.
+    /// Returns the number that `vuthgal_session_go_to` returns for this reason.
     fn status(self) -> u8
         ensures { result ≡ not_there_status self }
     {
@@ -42,7 +42,7 @@ impl NotThere {
     }
 }
 
-/// Returns how many of so many choices these runs lack.
+/// Returns how many choices fewer than `number` these runs have: 0 if they have as many or more.
 fn lacking(runs: &[Run], number: u64) -> u64
     ensures { result ≡ number - length (choices_of runs.now) }
 {
@@ -53,7 +53,7 @@ fn lacking(runs: &[Run], number: u64) -> u64
     left
 }
 
-/// Brings a session to the state after the first `number` choices of a schedule.
+/// Brings a session to the state after the first `number` choices of a schedule. If that fails, nothing changes.
 fn go_to(alloc: Global, held: &mut Held, played: &[u8], number: u64) -> Result<(), NotThere>
     ensures there { OnOk result (HasGone held.old played.now number held.new) }
     ensures none { IfErr result (λ why. HasNotGone why held.old played.now number) }
@@ -76,9 +76,9 @@ fn go_to(alloc: Global, held: &mut Held, played: &[u8], number: u64) -> Result<(
     }
 }
 
-/// Goes to the state after the first `number` choices of `played`, the schedule of what was played from the beginning on. Returns 0, or
-/// 6 if no session is open; 1 if `played` has fewer choices; 3 if it is no schedule; 5 if it is too long; 7 or 8 if one of these
-/// choices is refused; or 4 if it is out of memory. Then nothing changes.
+/// Goes to the state after the first `number` choices of `played`, the schedule of what was played from the beginning on.
+/// Returns 0; 6 if no session is open; 1 if `played` has fewer choices; 3 if it is no schedule; 5 if it is too long; 7 or 8 if
+/// one of these choices is refused; or 4 without memory. Unless it is 0, nothing changes.
 #[unsafe(no_mangle)]
 pub extern "C" fn vuthgal_session_go_to(
     alloc: Global,

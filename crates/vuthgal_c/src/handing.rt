@@ -8,7 +8,7 @@ use byte_ports::CountingSink;
 /// The line where there is no memory.
 pub const NO_MEMORY: &[u8] = b"memory\n";
 
-/// Copies `first`, the beginning of `count` bytes, to the caller's `room`, as many as fit. `told` gets `count`.
+/// Copies as many of `count` bytes as fit to `room`, and sets `told` to `count`. `first` is the part of them that was kept.
 fn hand(first: &[u8], count: usize, room: &mut [u8], told: &mut usize)
     requires { min count (length room.old) ≤ length first.now }
     ensures { (bytes : List ℕ) → AreFirst first.now bytes → count ≡ min (length bytes) most_counted
@@ -19,14 +19,14 @@ fn hand(first: &[u8], count: usize, room: &mut [u8], told: &mut usize)
     *told = count;
 }
 
-/// Copies these bytes to the caller's `room`, as many as fit. `told` gets their count.
+/// Copies these bytes to the caller's `room`, as many as fit, and sets `told` to their count.
 pub fn hand_all(bytes: &[u8], room: &mut [u8], told: &mut usize)
     ensures { Holds room.old room.new told.new bytes.now }
 {
     hand(bytes, bytes.len(), room, told);
 }
 
-/// Copies what came to a sink to `room`, as many bytes as fit. `told` gets the count of all.
+/// Copies what was written to a sink to `room`, as many bytes as fit, and sets `told` to the count of all its bytes.
 pub fn hand_over(sink: &CountingSink, room: &mut [u8], told: &mut usize)
     requires { min (length sink.now.written) (length room.old) ≤ length sink.now.kept }
     ensures { Holds room.old room.new told.new sink.now.written }

@@ -45,7 +45,7 @@ impl Handle {
         }
     }
 
-    /// Returns the block of the session, if there is one. The handle is gone.
+    /// Returns the block of the session, or `None` if the handle has no session. It uses the handle up.
     pub(crate) fn into_loose(self, alloc: Global) -> Option<Loose<Held, Global>>
         ensures { option_map (λ l. l.value) result ≡ self.session }
     {

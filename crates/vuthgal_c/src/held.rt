@@ -41,7 +41,7 @@ pub enum Unanswered {
     ReplyLost,
 }
 
-/// Carries out a command. Returns false if it is out of memory, and then nothing is done. The sink `shown` never fails.
+/// Carries out a command and writes its reply to `shown`, which never fails. Returns false, and does nothing, without memory.
 fn is_answered(debugger: &mut Debugger, command: &[u8], shown: &mut SessionSink) -> bool
     ensures done { result ≡ true → (text : List ℕ) × (Replies debugger.old (line_order command.now) debugger.new text
         × Appends (Some shown.old) (Some shown.new) text) }
@@ -76,7 +76,7 @@ impl Held {
         }
     }
 
-    /// Returns a session in the same state, without a reply or a past.
+    /// Returns a session in the same state, with an empty reply and no choices to take back.
     pub fn copy(&self, alloc: Global) -> Result<Held, AllocError>
         ensures { IfOk result (λ copy. copy ≡ copy_of self.now) }
     {
@@ -84,7 +84,7 @@ impl Held {
         Ok(Held::new(alloc, self.debugger.copy()?, image))
     }
 
-    /// Returns the machine.
+    /// Returns the machine in its present state.
     pub fn machine(&self) -> &Machine
         ensures { result.now ≡ self.now.debugger.machine }
     {
@@ -104,7 +104,7 @@ impl Held {
         }
     }
 
-    /// Takes back the last choice. Returns false if none is kept.
+    /// Takes back the last choice. Returns false if no choice is kept that could be taken back.
     pub fn back(&mut self) -> bool
         ensures session { self.new ≡ record self.old { debugger = went_back self.old.debugger } }
         ensures kept { result ≡ false → self.old.debugger.past ≡ [] }
@@ -113,8 +113,8 @@ impl Held {
         self.debugger.back().is_ok()
     }
 
-    /// Goes to the state after the first `number` choices of runs, which are played again from the beginning. The breakpoints and the
-    /// reply stay. If one of these choices is refused, nothing changes.
+    /// Goes to the state after the first `number` choices of `runs`, played from the beginning. Breakpoints and reply stay. If
+    /// one of these choices is refused, nothing changes.
     pub fn go_to(&mut self, alloc: Global, runs: &[Run], number: u64) -> Result<(), StepFault>
         ensures there { OnOk result (IsAgain self.old (take number (choices_of runs.now)) self.new) }
         ensures refused { IfErr result (λ fault. fault ≢ StepFault.Memory
@@ -138,7 +138,7 @@ impl Held {
         self.reply.as_slice()
     }
 
-    /// Carries out a command, a line without its LF, and keeps the reply. If there is no memory, it says whether this was done.
+    /// Carries out a command, a line without its LF, and keeps the reply. The error says whether it was carried out.
     pub fn command(&mut self, alloc: Global, line: &[u8]) -> Result<(), Unanswered>
         ensures done { OnOk result (Replies self.old.debugger (line_order line.now) self.new.debugger self.new.reply) }
         ensures image { OnOk result (self.new.image ≡ self.old.image) }

@@ -8,7 +8,7 @@ use crate::loose::Loose;
 use std::alloc::Global;
 use std::mem::replace;
 
-/// Returns the session of a handle, if it has one. The handle is gone.
+/// Returns the session of a handle, or `None` if it has none. It uses the handle up.
 fn into_box(handle: Handle, alloc: Global) -> Option<Box<Held>>
     ensures { MatchOption result (handle.session ≡ None) (λ b. handle.session ≡ Some b.value) }
 {
@@ -18,14 +18,14 @@ fn into_box(handle: Handle, alloc: Global) -> Option<Box<Held>>
     }
 }
 
-/// Puts a session into a handle, and drops the one that was there.
+/// Puts a session into a handle. `let _` drops the session that was there, if there was one.
 pub fn put(alloc: Global, handle: &mut Handle, held: Box<Held>)
     ensures { handle.new.session ≡ Some held.value }
 {
     let _ = into_box(replace(handle, Handle::of(Loose::of(held))), alloc);
 }
 
-/// Takes the session out of a handle, if it has one.
+/// Takes the session out of a handle, which has none afterwards. Returns `None` if it had none.
 pub fn take(alloc: Global, handle: &mut Handle) -> Option<Box<Held>>
     ensures empty { handle.new.session ≡ None }
     ensures taken { MatchOption result (handle.old.session ≡ None) (λ b. handle.old.session ≡ Some b.value) }

@@ -102,7 +102,7 @@ pub struct EventLook {
     pub mark: u8,
 }
 
-/// Returns the number of the phaser or barrier that a row names, or 65535.
+/// Returns the number of the phaser or barrier that a row names, or 65535 if it names neither.
 fn object_of(row: Row) -> u16
     ensures { result ≡ object_of (named_by row) }
 {
@@ -113,7 +113,7 @@ fn object_of(row: Row) -> u16
     }
 }
 
-/// Returns the number of what a thread is doing.
+/// Returns a thread's status as the number that `ThreadLook.status` has for it.
 pub fn status_number(status: Status) -> u8
     ensures { result ≡ status_number status }
 {
@@ -127,7 +127,7 @@ pub fn status_number(status: Status) -> u8
     }
 }
 
-/// Returns the number that belongs to what a thread is doing.
+/// Returns the exception, phase or arrival index that a thread's status carries, or 0 if it carries none (`ThreadLook.value`).
 pub fn status_value(status: Status) -> i32
     ensures { result ≡ status_value status }
 {
@@ -139,7 +139,7 @@ pub fn status_value(status: Status) -> i32
     }
 }
 
-/// Returns the number of the phaser or barrier at which a thread at this row waits, or 65535.
+/// Returns the number of the phaser or barrier at which a thread at this row waits, or 65535 if it doesn't wait.
 pub fn place_of(status: Status, row: Row) -> u16
     ensures { result ≡ place_of status row }
 {
@@ -149,7 +149,7 @@ pub fn place_of(status: Status, row: Row) -> u16
     }
 }
 
-/// Returns the number of a standing.
+/// Returns a machine's standing as a number: 0 if a thread can go on, 1 if none can but some wait, 2 if all have ended or died.
 pub fn standing_number(standing: Standing) -> u8
     ensures { result ≡ standing_number standing }
 {
@@ -160,7 +160,7 @@ pub fn standing_number(standing: Standing) -> u8
     }
 }
 
-/// Returns an entry of a stack as a caller sees it.
+/// Returns an entry of a stack as the struct of numbers that a caller in C gets.
 pub fn entry_look(entry: Entry) -> EntryLook
     ensures { result ≡ entry_look entry }
 {
@@ -184,7 +184,7 @@ pub fn entry_look(entry: Entry) -> EntryLook
     }
 }
 
-/// Returns the number of what became of a thread.
+/// Returns what happened to a thread as the number that `EventLook.what` has for it.
 fn what_number(what: What) -> u8
     ensures { result ≡ what_number what }
 {
@@ -203,7 +203,7 @@ fn what_number(what: What) -> u8
     }
 }
 
-/// Returns the number that belongs to what became of a thread.
+/// Returns the result, the value put out, or the exception that an event carries, or 0 if it carries none (`EventLook.value`).
 fn what_value(what: What) -> i32
     ensures { result ≡ what_value what }
 {
@@ -214,7 +214,7 @@ fn what_value(what: What) -> i32
     }
 }
 
-/// Returns the number of a mark.
+/// Returns what a choice did to a phaser or a barrier as the number that `EventLook.mark` has for it: 0 for nothing.
 fn mark_number(mark: Mark) -> u8
     ensures { result ≡ mark_number mark }
 {
@@ -226,7 +226,7 @@ fn mark_number(mark: Mark) -> u8
     }
 }
 
-/// Returns the root or barrier of a mark, or 65535.
+/// Returns the root phaser whose phase ended, or the barrier that tripped or broke, or 65535 if there was none.
 fn mark_object(mark: Mark) -> u16
     ensures { result ≡ mark_object mark }
 {
@@ -237,7 +237,7 @@ fn mark_object(mark: Mark) -> u16
     }
 }
 
-/// Returns the view of a mark at the end of a phase, or else 0.
+/// Returns what `getPhase` of the root returns after the end of its phase, or 0 if no phase ended.
 fn mark_view(mark: Mark) -> i32
     ensures { result ≡ mark_view mark }
 {
@@ -247,7 +247,7 @@ fn mark_view(mark: Mark) -> i32
     }
 }
 
-/// Returns the event of the choice of this number, of a thread at this row, as a caller sees it.
+/// Returns the event of choice `number`, made by a thread at this row, as the struct of numbers that a caller in C gets.
 pub fn event_look(number: u64, row: u16, event: Event) -> EventLook
     ensures { result ≡ event_look number row event }
 {

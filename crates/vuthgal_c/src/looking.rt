@@ -15,7 +15,7 @@ use instruction_table::Reg;
 use thread_machine::Machine;
 use tier_tree::{Forest, PhaserId};
 
-/// Returns the counts of a machine's state.
+/// Returns the counts of a machine's state. `is_forest` does nothing but state that its phasers are few.
 pub fn state_look(machine: &Machine) -> StateLook
     ensures { result ≡ state_look (world_of machine.now) }
 {
@@ -30,7 +30,7 @@ pub fn state_look(machine: &Machine) -> StateLook
     }
 }
 
-/// Returns a thread of a machine.
+/// Returns a thread's registers, status and counts as the struct of numbers that a caller in C gets.
 fn thread_look(machine: &Machine, thread: u8) -> ThreadLook
     requires { thread < length machine.now.scene.threads }
     ensures { result ≡ thread_look machine.now.program (thread_at (scene_of machine.now.scene) thread) }
@@ -56,7 +56,7 @@ fn thread_look(machine: &Machine, thread: u8) -> ThreadLook
     }
 }
 
-/// Returns a phaser of a forest.
+/// Returns a phaser's phase, counts and parent as the struct of numbers that a caller in C gets.
 fn phaser_look(forest: &Forest, id: PhaserId) -> PhaserLook
     requires { id.0 < length forest.now }
     ensures { result ≡ phaser_look (phaser_at (phasers_of forest.now) id.0) }
@@ -73,7 +73,7 @@ fn phaser_look(forest: &Forest, id: PhaserId) -> PhaserLook
     }
 }
 
-/// Returns a barrier.
+/// Returns a barrier's counts and runner as the struct of numbers that a caller in C gets.
 fn barrier_look(barrier: &Barrier) -> BarrierLook
     ensures { result ≡ barrier_look barrier.now }
 {
@@ -97,7 +97,7 @@ pub fn see_threads(machine: &Machine, room: &mut [ThreadLook])
     }
 }
 
-/// Fills a caller's room with the phasers of a machine, as many as fit.
+/// Fills a caller's room with the phasers of a machine, as many as fit. `is_forest` does nothing but state that they are few.
 pub fn see_phasers(machine: &Machine, room: &mut [PhaserLook])
     ensures { PhasersAreSeen (world_of machine.now) room.old room.new }
 {
@@ -117,7 +117,7 @@ pub fn see_barriers(machine: &Machine, room: &mut [BarrierLook])
     }
 }
 
-/// Fills a caller's room with the cells of a machine, as many as fit.
+/// Fills a caller's room with the cells of a machine, of which there are 32, as many as fit.
 pub fn see_cells(machine: &Machine, room: &mut [i32])
     ensures { CellsAreSeen (world_of machine.now) room.old room.new }
 {
@@ -181,10 +181,12 @@ impl OfThread for EntryLook {
 
     ghost count_of = { stack_count };
 
+    /// Returns how many entries the thread's stack has.
     fn count(machine: &Machine, thread: u8) -> usize {
         machine.depth(thread)
     }
 
+    /// Fills the room with these entries, as many as fit.
     fn see(machine: &Machine, thread: u8, room: &mut [EntryLook]) {
         see_stack(machine, thread, room);
     }
@@ -198,10 +200,12 @@ impl OfThread for i32 {
 
     ghost count_of = { output_count };
 
+    /// Returns how many values the thread put out.
     fn count(machine: &Machine, thread: u8) -> usize {
         machine.output(thread).len()
     }
 
+    /// Fills the room with these values, as many as fit.
     fn see(machine: &Machine, thread: u8, room: &mut [i32]) {
         see_outputs(machine, thread, room);
     }

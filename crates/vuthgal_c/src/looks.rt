@@ -12,8 +12,8 @@ use crate::looking::{
 use crate::sessions::{CLOSED, NO_THREAD};
 use std::alloc::Global;
 
-/// Looks at the state: `state` gets its counts, and each room its threads, phasers, barriers and cells, as many as fit. Returns 0,
-/// or 6 if no session is open, and then nothing is written. It allocates nothing.
+/// Writes the state of a session: its counts to `state`, and its threads, phasers, barriers and cells to the other rooms, as
+/// many as fit. Returns 0, or 6 if no session is open: then nothing is written. It allocates nothing.
 #[unsafe(no_mangle)]
 pub extern "C" fn vuthgal_session_look(
     alloc: Global,
@@ -44,8 +44,8 @@ pub extern "C" fn vuthgal_session_look(
     0
 }
 
-/// Writes a list of a thread's, as much as fits, and its length. Returns 0, or 6 if no session is open, or 7 if it has no such
-/// thread: then nothing is written.
+/// Writes a thread's list, its stack or its output by the type `L`, as much as fits, and the list's length. Returns 0, or 6 if
+/// no session is open, or 7 if it has no such thread: then nothing is written.
 fn see_thread<L: OfThread>(
     alloc: Global,
     session: &mut Handle,
@@ -69,8 +69,8 @@ fn see_thread<L: OfThread>(
     if is_there { 0 } else { NO_THREAD }
 }
 
-/// Writes the entries of a thread's stack from the bottom, as many as fit, and their count. Returns 0, or 6 if no session is open,
-/// or 7 if it has no such thread: then nothing is written. It allocates nothing.
+/// Writes the entries of a thread's stack from the bottom, as many as fit, and their count. Returns 0, or 6 if no session is
+/// open, or 7 if it has no such thread: then nothing is written. It allocates nothing.
 #[unsafe(no_mangle)]
 pub extern "C" fn vuthgal_session_stack(
     alloc: Global,
@@ -85,8 +85,8 @@ pub extern "C" fn vuthgal_session_stack(
     see_thread(alloc, session, thread, entries, count)
 }
 
-/// Writes the values that a thread put out, as many as fit, and their count. Returns 0, or 6 if no session is open, or 7 if it has
-/// no such thread: then nothing is written. It allocates nothing.
+/// Writes the values that a thread put out, as many as fit, and their count. Returns 0, or 6 if no session is open, or 7 if it
+/// has no such thread: then nothing is written. It allocates nothing.
 #[unsafe(no_mangle)]
 pub extern "C" fn vuthgal_session_outputs(
     alloc: Global,

@@ -16,7 +16,7 @@ impl<T, A: Allocator> Model for Loose<T, A> {
 }
 
 impl<T: Drop, A: Allocator> Loose<T, A> {
-    /// Returns the pointer of a box, which isn't freed.
+    /// Turns a box into its pointer. The memory isn't freed: `into_box` gives the box back.
     pub(crate) fn of(value: Box<T, A>) -> Loose<T, A>
         ensures { result.value ≡ value.value }
     {
@@ -24,7 +24,7 @@ impl<T: Drop, A: Allocator> Loose<T, A> {
         Loose { at, alloc }
     }
 
-    /// Returns the box that this pointer was taken from.
+    /// Turns the pointer back into the box from which `of` took it.
     pub(crate) fn into_box(self) -> Box<T, A>
         ensures { result.value ≡ self.value }
     {

@@ -49,7 +49,7 @@ enum Kind {
     Text,
 }
 
-/// Returns what is looked at, by its number.
+/// Returns what a caller asks to have looked at, from its number: 1 a plan, 2 a schedule, 3 a text, any other a program.
 fn kind_of(number: u8) -> Kind
     ensures { result ≡ kind_of number }
 {
@@ -70,7 +70,7 @@ struct Mistake {
 }
 
 impl Mistake {
-    /// Returns a mistake without a place.
+    /// Returns the mistake for a fault that is at no place of an input, such as out of memory. It has no line that helps.
     fn nowhere(fault: Fault) -> Mistake
         ensures why { result.why ≡ why.Fault fault }
         ensures place { result.place ≡ no_place }
@@ -83,7 +83,7 @@ impl Mistake {
     }
 }
 
-/// Returns the part of a file that is its program.
+/// Returns the part of a file that is read as its program. After a line `.run` there may be a schedule, which is no part of it.
 fn text_in(kind: Kind, file: &[u8]) -> &[u8]
     ensures { result.now ≡ text_in kind file.now }
 {
@@ -94,7 +94,7 @@ fn text_in(kind: Kind, file: &[u8]) -> &[u8]
     }
 }
 
-/// Returns the mistake of a file without a program.
+/// Returns the mistake of a file that is no program, because of this fault: its place, and the line that helps.
 fn no_program(alloc: Global, file: &[u8], text: &[u8], fault: Fault) -> Mistake
     ensures why { result.why ≡ why.Fault fault }
     ensures place { result.place ≡ text_place fault }
@@ -109,7 +109,7 @@ fn no_program(alloc: Global, file: &[u8], text: &[u8], fault: Fault) -> Mistake
     }
 }
 
-/// Returns the mistake of a program that isn't loaded.
+/// Returns the mistake of a program that the loader refuses with this fault: its place, and the line that helps.
 fn not_loaded(alloc: Global, file: &[u8], text: &[u8], fault: Fault) -> Mistake
     ensures why { result.why ≡ why.Fault fault }
     ensures place { IsPlacedLoad fault result.place }
@@ -128,7 +128,7 @@ fn not_loaded(alloc: Global, file: &[u8], text: &[u8], fault: Fault) -> Mistake
     }
 }
 
-/// Returns whether the program is never an image.
+/// Returns whether the file is always read as a text. Otherwise it may also be an image.
 fn is_text(kind: Kind) -> bool
     ensures { result ≡ is_text kind }
 {
@@ -138,7 +138,7 @@ fn is_text(kind: Kind) -> bool
     }
 }
 
-/// Returns the program of a file.
+/// Returns the program in a file, without the schedule that may follow it, or the mistake if there is none.
 fn program_of(alloc: Global, kind: Kind, file: &[u8]) -> Result<Program<'_>, Mistake>
     ensures program { IfOk result (λ program. IsProgramOf kind file.now program) }
     ensures none { IfErr result (λ mistake. LacksProgram kind file.now mistake.why mistake.place) }
@@ -155,7 +155,7 @@ fn program_of(alloc: Global, kind: Kind, file: &[u8]) -> Result<Program<'_>, Mis
     }
 }
 
-/// Returns the names of the threads of a file's program, which is loaded.
+/// Loads a file's program, and returns the names of its threads, or the mistake if the program is refused.
 fn names_of(alloc: Global, kind: Kind, file: &[u8]) -> Result<Vec<&[u8]>, Mistake>
     ensures names { IfOk result (λ names. HasNames kind file.now (map name_seen names.items)) }
     ensures few { IfOk result (λ names. length names.items ≤ 64) }
@@ -172,7 +172,7 @@ fn names_of(alloc: Global, kind: Kind, file: &[u8]) -> Result<Vec<&[u8]>, Mistak
     }
 }
 
-/// Returns the mistake of a plan for threads of these names, if it has one.
+/// Reads a plan for threads of these names. Fails with its mistake if it has one.
 fn plan_read(alloc: Global, plan: &[u8], names: &[&[u8]]) -> Result<(), Mistake>
     requires { length names.now ≤ 64 }
     ensures read { OnOk result (IsRightPlan (map name_seen names.now) plan.now) }
@@ -190,7 +190,7 @@ fn plan_read(alloc: Global, plan: &[u8], names: &[&[u8]]) -> Result<(), Mistake>
     })
 }
 
-/// Returns the offset of a schedule's fault.
+/// Returns how many bytes of the schedule precede its fault. A lack of memory has no place, and gets 0.
 fn offset_of(fault: ScheduleFault) -> u64
     ensures { result ≡ offset_of fault }
 {
@@ -200,7 +200,7 @@ fn offset_of(fault: ScheduleFault) -> u64
     }
 }
 
-/// Returns the mistake of a schedule, if it has one. The schedule is the end of `file`.
+/// Reads a schedule, which is the end of `file`. Fails with its mistake if it has one: the place is counted in `file`.
 fn schedule_read(
     alloc: Global,
     file: &[u8],
@@ -230,7 +230,7 @@ fn schedule_read(
     })
 }
 
-/// Returns what is wrong with what is looked at, if anything is.
+/// Reads the program in `file`, and for a plan or a schedule also `input`. Fails with the first mistake, if there is one.
 fn looked_at(alloc: Global, kind: Kind, file: &[u8], input: &[u8]) -> Result<(), Mistake>
     ensures right { OnOk result (IsRight kind file.now input.now) }
     ensures mistake { IfErr result (λ mistake. unplanned_status mistake.why ≡ 3
@@ -253,7 +253,7 @@ fn looked_at(alloc: Global, kind: Kind, file: &[u8], input: &[u8]) -> Result<(),
     }
 }
 
-/// The line with the help that the entry of a refusal has.
+/// Returns the general line of help for this kind of refusal, as `vuthgal explain` has it, or `None` if it has none.
 fn entry_hint(alloc: Global, why: Unplanned) -> Hint {
     let mut line = MemorySink::new(alloc, LONGEST_LINE, None)?;
     if why.tell(&mut line).is_err() {
@@ -263,7 +263,7 @@ fn entry_hint(alloc: Global, why: Unplanned) -> Hint {
     help_if_any(alloc, (!helps.is_empty()).then_some(helps))
 }
 
-/// Writes the line that helps at a mistake: that of its word, or else that of the refusal's entry.
+/// Writes the line that helps with the wrong word, or else with the refusal. `let _`: one that can't be written is left out.
 fn push_hint<K: Sink>(alloc: Global, mistake: &Mistake, output: &mut K) {
     let hint = match &mistake.hint {
         Ok(Some(line)) => {
@@ -277,7 +277,8 @@ fn push_hint<K: Sink>(alloc: Global, mistake: &Mistake, output: &mut K) {
     }
 }
 
-/// Says where what is looked at is refused, and writes what helps.
+/// Looks for a mistake in the program, or in `input`. If there is one (status 3), writes the line that helps, sets `place`, and
+/// fails with the reason. In any other case it writes nothing, and `place` is no place.
 fn told<K: Sink>(
     alloc: Global,
     kind: Kind,
@@ -307,8 +308,8 @@ fn told<K: Sink>(
     }
 }
 
-/// Says where `program`, or `input`, a plan or a schedule of it by `kind`, is refused: `place` gets the word, `output` the line that
-/// helps, and `line` that of the refusal, as far as they fit, and their lengths. Returns the status.
+/// Writes where `program`, or `input`, a plan or schedule of it by `kind`, is refused: the word to `place`, what helps to
+/// `output`, and the refusal's line to `line`, as far as they fit, and lengths. Returns 0 if it isn't, 3 if it is, or 4 or 5.
 #[unsafe(no_mangle)]
 pub extern "C" fn vuthgal_mistake(
     alloc: Global,

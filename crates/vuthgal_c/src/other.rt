@@ -33,7 +33,7 @@ enum NoOther {
 }
 
 impl NoOther {
-    /// Returns the status of the call.
+    /// Returns the number that `vuthgal_session_other` returns for this reason.
     fn status(self) -> u8
         ensures { result ≡ no_other_status self }
     {
@@ -45,7 +45,7 @@ impl NoOther {
     }
 }
 
-/// Returns the run's own choices, which are at most 2,000.
+/// Returns the choices with which the run goes on, read from the schedule `rest`. Fails if it is too long, or isn't one.
 fn own_choices(alloc: Global, rest: &[u8]) -> Result<Vec<Choice>, NoOther>
     ensures own { IfOk result (λ own. AreChoicesIn rest.now own.items) }
     ensures refused { result ≡ Err NoOther.Rest → IsRefusedRest rest.now }
@@ -61,7 +61,7 @@ fn own_choices(alloc: Global, rest: &[u8]) -> Result<Vec<Choice>, NoOther>
     }
 }
 
-/// Returns the schedule of the other run that makes `choice` here, where the run's own choices would be `own`.
+/// Returns the schedule of another run that makes `choice` now, where this run would go on with `own`: at most `most` choices.
 fn schedule_of_other(
     alloc: Global,
     machine: &Machine,
@@ -76,7 +76,7 @@ fn schedule_of_other(
     write_schedule(alloc, planned.runs.as_slice())
 }
 
-/// Returns the schedule of the other run that makes `choice` here, where the run would go on with `rest`.
+/// Returns the schedule of a run that makes `choice` now, where this run goes on with `rest`. Fails if one of them is refused.
 fn other_text(
     alloc: Global,
     machine: &Machine,
@@ -101,9 +101,8 @@ fn other_text(
     }
 }
 
-/// Writes the schedule of the other run that makes a choice at this session's state, where its own run would go on with `rest`: at
-/// most `most` choices. Returns 0, or 6 if no session is open, 7 if it has no such thread, 3 if `rest` is refused, or 4 if it is
-/// out of memory.
+/// Writes the schedule of another run that makes a choice in this session's state, where its own run goes on with `rest`: at
+/// most `most` choices. Returns 0; 6 if no session is open; 7 without such a thread; 3 for a wrong `rest`; 4 without memory.
 #[unsafe(no_mangle)]
 pub extern "C" fn vuthgal_session_other(
     alloc: Global,

@@ -18,7 +18,7 @@ pub struct PlaceLook {
 }
 
 impl PlaceLook {
-    /// Returns the place of what is nowhere.
+    /// Returns the place that stands for no place: all its numbers are 0.
     pub fn none() -> PlaceLook
         ensures { result ≡ no_place }
     {
@@ -30,7 +30,7 @@ impl PlaceLook {
         }
     }
 
-    /// Returns the place of a word of the line of this number, or of the whole line.
+    /// Returns the place of a word of line number `line`, or of the whole line if `word` is `None`.
     pub fn of_word(line: u64, word: Option<WordPlace>, input: u8) -> PlaceLook
         ensures { result ≡ word_place line word input }
     {
@@ -46,7 +46,7 @@ impl PlaceLook {
         }
     }
 
-    /// Returns the place of the byte behind `front`.
+    /// Returns the place of the byte that follows `front`, the beginning of an input: its line and column, from 1.
     pub fn behind(front: &[u8], input: u8) -> PlaceLook
         ensures { IsByteAt front.now input result }
     {

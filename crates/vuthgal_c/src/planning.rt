@@ -23,8 +23,8 @@ use workbench::fault::Fault;
 /// The most seeds in one call.
 const MOST_SEEDS: u32 = 100_000;
 
-/// Writes a plan's schedule on a program, of at most `most` choices, with the threads' names if asked for. Returns whether it needs
-/// more.
+/// Writes the schedule that a plan makes for a program, of at most `most` choices, with the threads' names if `has_names`.
+/// Returns whether the plan was cut off there. If it fails other than by `Write`, nothing is written.
 fn push_plan<K: Sink>(
     alloc: Global,
     program: Program<'_>,
@@ -47,8 +47,8 @@ fn push_plan<K: Sink>(
     }
 }
 
-/// Writes a plan's schedule on a file's program, of at most `most` choices, with the threads' names if asked for. Returns whether it
-/// needs more. Too long an input is `Read`.
+/// Writes the schedule that the plan `steps` makes for `file`'s program, of at most `most` choices. Returns whether the plan
+/// was cut off there. Fails with `Read` if an input is too long.
 fn planned<K: Sink>(
     alloc: Global,
     file: &[u8],
@@ -70,7 +70,7 @@ fn planned<K: Sink>(
     }
 }
 
-/// Writes the line of a plan that was stopped at so many choices.
+/// Writes the line `stopped at MOST choices`, for a plan that was cut off.
 fn push_stopped<E: Sink>(line: &mut E, most: u32) -> Result<(), Failed>
     ensures bytes { OnOk result (Appends (E.written line.old) (E.written line.new) (stopped_line most)) }
     ensures failed { OnErr result (IsTrue (E.has_failed line.new)) }
@@ -80,7 +80,7 @@ fn push_stopped<E: Sink>(line: &mut E, most: u32) -> Result<(), Failed>
     line.push(b" choices\n")
 }
 
-/// Returns the status: 0, or 1 with a line if the plan was cut off (`Ok(true)`), or the fault's, whose line goes to `line`.
+/// Returns the exit status: 0, 1 if the plan was cut off (`Ok(true)`), or a fault's. Unless it is 0, `line` says why.
 fn settled<E: Sink>(answer: Result<bool, Unplanned>, most: u32, line: &mut E) -> u8
     ensures { SettlesPlan most answer result (E.has_failed line.new) (E.written line.old) (E.written line.new) }
 {
@@ -97,8 +97,9 @@ fn settled<E: Sink>(answer: Result<bool, Unplanned>, most: u32, line: &mut E) ->
     }
 }
 
-/// Writes the schedule of `plan`, of at most `most` choices and at most 1,000,000, to `output` and a fault to `line`, as far as they
-/// fit, and their lengths. If `names` isn't 0, threads have their names, so that the schedule is a plan. Returns the status.
+/// Writes the schedule of `plan`, of at most `most` choices and at most 1,000,000, to `output` and a fault to `line`, as far as
+/// they fit, and their lengths. If `names` isn't 0, threads have their names, so that the schedule is a plan. Returns 0, 1 if
+/// the plan was cut off, or 3 to 5 for a fault.
 #[unsafe(no_mangle)]
 pub extern "C" fn vuthgal_plan(
     alloc: Global,
@@ -120,7 +121,7 @@ pub extern "C" fn vuthgal_plan(
     reply.hand(status, output, output_length, line, line_length)
 }
 
-/// Returns the seeds that a caller asks for.
+/// Returns what a caller asks for as `Seeds`: at most 100,000 seeds, and no limit on choices if `limit` is 0.
 fn asked(first: u32, count: u32, limit: u32, names: u8) -> Seeds<'static>
     ensures { AreAsked first count limit names result }
 {
@@ -137,7 +138,8 @@ fn asked(first: u32, count: u32, limit: u32, names: u8) -> Seeds<'static>
     }
 }
 
-/// Writes what the orders of these seeds lead to on a program.
+/// Plays a program once for each seed, after the plan `steps`, and writes a line for each state in which a run ended. If it
+/// fails other than by `Write`, nothing is written.
 fn push_report<K: Sink>(
     alloc: Global,
     program: Program<'_>,
@@ -159,7 +161,7 @@ fn push_report<K: Sink>(
     }
 }
 
-/// Writes what the orders of these seeds lead to on a file's program. Too long an input is `Read`.
+/// Plays the program in `file` for each seed, and writes a line for each end state. Fails with `Read` if an input is too long.
 fn reported<K: Sink>(
     alloc: Global,
     file: &[u8],
@@ -180,7 +182,7 @@ fn reported<K: Sink>(
     }
 }
 
-/// Returns the status: 0, or that of the fault, whose line goes to `line`.
+/// Returns the exit status: 0, or a fault's. Writes a fault's line to `line`, if that works.
 pub fn settled_done<E: Sink>(answer: Result<(), Unplanned>, line: &mut E) -> u8
     ensures { SettlesSeeds answer result (E.has_failed line.new) (E.written line.old) (E.written line.new) }
 {
@@ -193,9 +195,9 @@ pub fn settled_done<E: Sink>(answer: Result<(), Unplanned>, line: &mut E) -> u8
     }
 }
 
-/// Plays `plan` and then an order by each of `count` seeds, at most 100,000, from `first` on: of at most `limit` choices, if that isn't
-/// 0. Writes a line for each state that a run ended in to `output` and a fault to `line`, as far as they fit, and their lengths.
-/// Returns the status.
+/// Plays `plan` and then an order by each of `count` seeds, at most 100,000, from `first` on: of at most `limit` choices, if
+/// that isn't 0. Writes a line for each state that a run ended in to `output` and a fault to `line`, as far as they fit, and
+/// their lengths. Returns 0, or 3 to 5 for a fault.
 #[unsafe(no_mangle)]
 pub extern "C" fn vuthgal_seeds(
     alloc: Global,

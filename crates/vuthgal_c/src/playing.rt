@@ -6,7 +6,7 @@ use std::alloc::Global;
 use workbench::slice_source::SliceSource;
 use workbench::{both_cmd, run_cmd};
 
-/// Writes the trace of a run to `output` and a fault to `line`, as far as they fit, and their lengths. Returns the status.
+/// Writes the trace of a run and a fault's line, as far as they fit, and their lengths. Returns 0, or 3 to 5 for a fault.
 #[unsafe(no_mangle)]
 pub extern "C" fn vuthgal_run(
     alloc: Global,
@@ -27,8 +27,8 @@ pub extern "C" fn vuthgal_run(
     reply.hand(status, output, output_length, line, line_length)
 }
 
-/// Plays `text` under its own schedule, and writes the trace to `output` and a fault to `line`, as far as they fit, and their
-/// lengths. Returns the status.
+/// Plays `text` under the schedule after its line `.run`, and writes the trace to `output` and a fault's line to `line`, as far
+/// as they fit, and their lengths. Returns 0, or 3 to 5 for a fault.
 #[unsafe(no_mangle)]
 pub extern "C" fn vuthgal_both(
     alloc: Global,

@@ -47,7 +47,7 @@ impl SessionSink {
     }
 }
 
-/// Keeps these bytes, too, if all that came before them was kept. Returns whether all is kept.
+/// Appends these bytes if all before them was kept (`is_whole`). Returns whether all is kept: not if memory was ever lacking.
 fn keep(kept: &mut Vec<u8>, is_whole: bool, bytes: &[u8]) -> bool
     ensures kept { (came : List ℕ) → reply_room ≤ vec_capacity kept.old → HasKept is_whole kept.old.items came
         → HasKept result kept.new.items (came ++ bytes.now) }

@@ -24,7 +24,7 @@ pub const NO_THREAD: u8 = 7;
 /// The line where a program is too long.
 const TOO_LONG: &[u8] = b"read\n";
 
-/// Returns a session of the program in a file, before its first command.
+/// Returns a session of the program in a file, before its first command. It keeps a copy of the image, to begin again from.
 fn held_of(alloc: Global, file: &[u8]) -> Result<Held, Fault>
     ensures first { IfOk result (λ held. IsFirstOf file.now held) }
     ensures none { IfErr result (λ fault. HasNone file.now fault) }
@@ -67,7 +67,8 @@ fn tell(fault: Fault, told: &mut CountingSink)
     }
 }
 
-/// Closes the session, if one is open, and opens one of `program`. Returns 0, or the status of a fault, with its `line`.
+/// Closes the session, if one is open (`let _`), and opens one of `program`. Returns 0, or 3 to 5 for a fault, whose line goes
+/// to `line`. After a fault no session is open.
 #[unsafe(no_mangle)]
 pub extern "C" fn vuthgal_session_open(
     alloc: Global,
@@ -103,8 +104,8 @@ pub extern "C" fn vuthgal_session_open(
     status
 }
 
-/// Carries out a command, a line without its LF. Returns 0, or 6 if no session is open, or 4 if it is out of memory. Then the
-/// session is as before, or, if only the reply is lost, it is closed.
+/// Carries out a command, a line without its LF, and writes the reply. Returns 0; 6 if no session is open; or 4 if it is out of
+/// memory: then the session is as before, or, if the command was carried out and only its reply is lost, it is closed.
 #[unsafe(no_mangle)]
 pub extern "C" fn vuthgal_session_command(
     alloc: Global,
@@ -173,8 +174,8 @@ fn boxed_copy(alloc: Global, held: &Held) -> Result<Box<Held>, AllocError>
     }
 }
 
-/// Makes `to` a session in the state of `from`, and closes the one that was there. Returns 0, or 6 if `from` isn't open, or 4 if
-/// it is out of memory: then `to` is as before.
+/// Makes `to` a session in the state of `from`, and closes the one that was there. Returns 0, or 6 if `from` isn't open, or 4
+/// if it is out of memory: then `to` is as before.
 #[unsafe(no_mangle)]
 pub extern "C" fn vuthgal_session_copy(alloc: Global, from: &mut Handle, to: &mut Handle) -> u8
     ensures to { Copies from.old.session to.old.session to.new.session result }

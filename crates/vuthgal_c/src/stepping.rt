@@ -9,7 +9,7 @@ use crate::sessions::{CLOSED, NO_THREAD};
 use std::alloc::Global;
 use thread_machine::{Choice, StepFault};
 
-/// Returns the status of a choice that isn't played, by why.
+/// Returns the number that a call returns for a refused choice: 7 without such a thread, 8 at the limit of steps, or else 4.
 pub fn refused_status(fault: StepFault) -> u8
     ensures { result ≡ refused_status fault }
 {
@@ -20,9 +20,8 @@ pub fn refused_status(fault: StepFault) -> u8
     }
 }
 
-/// Plays a choice: the turn of a thread, or, where `expiry` isn't 0, the expiry of its wait. `event` gets what it did. Returns 0,
-/// or 6 if no session is open; 7 if there is no such thread; 8 at the limit of steps; or 4 if it is out of memory. Then nothing
-/// changes.
+/// Plays a choice: a thread's turn, or, if `expiry` isn't 0, the expiry of its wait. `event` gets what it did. Returns 0; 6 if
+/// no session is open; 7 without such a thread; 8 at the limit of steps; 4 without memory. Unless it is 0, nothing changes.
 #[unsafe(no_mangle)]
 pub extern "C" fn vuthgal_session_step(
     alloc: Global,
@@ -65,8 +64,8 @@ pub extern "C" fn vuthgal_session_back(alloc: Global, session: &mut Handle) -> u
     if is_back { 0 } else { 1 }
 }
 
-/// Says which choices would be steps, and not idle: bit t of `turns` for the turn of thread t, bit t of `expiries` for the expiry
-/// of its wait. Returns 0, or 6 and no bits if no session is open. It allocates nothing.
+/// Writes which choices would do something: bit t of `turns` for the turn of thread t, bit t of `expiries` for the expiry of
+/// its wait. Returns 0, or 6 and no bits if no session is open. It allocates nothing.
 #[unsafe(no_mangle)]
 pub extern "C" fn vuthgal_session_enabled(
     alloc: Global,

@@ -6,7 +6,7 @@ use std::alloc::Global;
 use workbench::slice_source::SliceSource;
 use workbench::{asm_cmd, list_cmd};
 
-/// Writes the image of `text` to `output` and a fault to `line`, as far as they fit, and their lengths. Returns the status.
+/// Writes the image of `text` and a fault's line, as far as they fit, and their lengths. Returns 0, or 3 to 5 for a fault.
 #[unsafe(no_mangle)]
 pub extern "C" fn vuthgal_asm(
     alloc: Global,
@@ -24,7 +24,7 @@ pub extern "C" fn vuthgal_asm(
     reply.hand(status, output, output_length, line, line_length)
 }
 
-/// Writes the canonical text to `output` and a fault to `line`, as far as they fit, and their lengths. Returns the status.
+/// Writes the canonical text of `program` and a fault's line, as far as they fit, and their lengths. Returns 0, or 3 to 5.
 #[unsafe(no_mangle)]
 pub extern "C" fn vuthgal_list(
     alloc: Global,

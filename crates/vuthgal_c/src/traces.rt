@@ -6,7 +6,8 @@ use std::alloc::Global;
 use workbench::compare_cmd;
 use workbench::slice_source::SliceSource;
 
-/// Writes the verdict of `trace` to `output` and a fault to `line`, as far as they fit, and their lengths. Returns the status.
+/// Compares `trace` with the run of `program`: writes the verdict to `output` and a fault's line to `line`, as far as they fit,
+/// and their lengths. Returns 0 if it is that run's trace, 1 if it isn't, or 3 to 5 for a fault.
 #[unsafe(no_mangle)]
 pub extern "C" fn vuthgal_compare(
     alloc: Global,

@@ -40,7 +40,7 @@ pub fn asm<K: Sink>(alloc: Global, text: &[u8], output: &mut K) -> Result<(), Fa
     }
 }
 
-/// Writes the bytes of an image.
+/// Writes the bytes of an image. Fails with `Write` if the output failed.
 fn push_image<K: Sink>(image: &Image, output: &mut K) -> Result<(), Fault>
     ensures bytes { OnOk result (Appends (K.written output.old) (K.written output.new) (image_bytes image.now)) }
     ensures write { IfErr result (λ fault. (fault ≡ Fault.Write) × IsTrue (K.has_failed output.new)) }

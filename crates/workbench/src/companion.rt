@@ -17,8 +17,9 @@ pub trait Companion {
     // Whether the lines could not be read.
     ghost has_failed: { Self → Bool };
 
-    /// Puts the next line, without its LF, in place of what the vector holds. Returns whether there was an LF. It reads no byte
-    /// after the LF, so the reply can be written before the next line is there. `reads` is how many bytes may still be read.
+    /// Puts the next line, without its LF, in place of what `line` holds. Returns true if it had an LF, and false if the lines
+    /// end with it. It reads no byte after the LF, so the reply can be written before the next line is there. `reads` is how
+    /// many bytes may still be read: it fails with `Read` if they don't suffice.
     fn next_line(
         &mut self,
         debugger: &Debugger,
@@ -62,7 +63,8 @@ impl<S: Source> Companion for S {
 
     ghost has_failed = { λ source. S.has_failed source };
 
-    /// Reads a byte at a time, so that nothing after the LF is read, and at most `reads` bytes. It ignores the debugger.
+    /// Reads byte by byte, at most `reads`, so that none after the LF is read. Returns false at the end. It ignores the
+    /// debugger.
     fn next_line(
         &mut self,
         _debugger: &Debugger,

@@ -134,8 +134,8 @@ enum PlayedTrace {
     NotATrace { line: u64 },
 }
 
-/// Plays a trace's choices up to a breakpoint or a refusal, and reads on to its state. A trace that ends with a choice's line
-/// lacks the next line: that is the first wrong one.
+/// Plays a trace's choices up to a breakpoint or a refusal, and reads on to its state. If a line isn't a trace's, returns its
+/// number. A trace that ends with a choice's line lacks the next line: that is the first wrong one.
 fn play_trace<T: Source>(
     alloc: Global,
     debugger: &mut Debugger,
@@ -165,7 +165,7 @@ fn play_trace<T: Source>(
     Err(Fault::Read)
 }
 
-/// Writes `not a trace LINE`, and returns `Unlike`.
+/// Writes `not a trace LINE`, and returns `Unlike`, which is exit status 1.
 fn not_a_trace<K: Sink>(output: &mut K, line: u64) -> Result<Done, Fault>
     ensures told { OnOk result (Appends (K.written output.old) (K.written output.new)
         (verdict_line (verdict.NotATrace line))) }
@@ -178,7 +178,7 @@ fn not_a_trace<K: Sink>(output: &mut K, line: u64) -> Result<Done, Fault>
     }
 }
 
-/// Makes the debugger of an image's program before its first choice. It keeps 4,096 choices.
+/// Makes the debugger of an image's program before its first choice. The last 4,096 choices can be taken back.
 pub fn first_debugger(alloc: Global, image: Image) -> Result<Debugger, Fault>
     ensures first { IfOk result (λ debugger. IsFirstSession image debugger) }
     ensures none { IfErr result (λ fault. HasNoSession fault image) }
@@ -249,7 +249,7 @@ fn take_turn<C: Companion, K: Sink>(
     }
 }
 
-/// Carries out the command in `line`, and writes its reply. Returns false after `q`, or the fault as a command's fault.
+/// Carries out the command in `line`, and writes its reply. Returns whether the session goes on: false after `q`.
 fn answer<K: Sink>(debugger: &mut Debugger, line: &[u8], output: &mut K) -> Result<bool, Fault>
     ensures answered { OnOk result ((text : List ℕ)
         × (Replies debugger.old (line_order line.now) debugger.new text

@@ -27,7 +27,7 @@ impl Done {
     }
 }
 
-/// Returns `AsAsked` in place of any value. A fault stays.
+/// Returns `AsAsked` (exit status 0) in place of any result that is no fault. A fault stays the same.
 pub fn as_asked<T: Drop>(answer: Result<T, Fault>) -> Result<Done, Fault>
     ensures done { OnOk answer (result ≡ Ok done.AsAsked) }
     ensures fault { IfErr answer (λ fault. result ≡ Err fault) }
@@ -45,7 +45,7 @@ pub fn settled_as_asked<T: Drop, E: Sink>(answer: Result<T, Fault>, errors: &mut
     settled(as_asked(answer), errors)
 }
 
-/// Returns the exit status of a result. A fault's line is written to `errors`, if that works.
+/// Returns the exit status of a result. Writes a fault's line to `errors`, if that works (`let _`).
 pub fn settled<E: Sink>(answer: Result<Done, Fault>, errors: &mut E) -> u8
     ensures { IsSettled answer result (E.has_failed errors.new) (E.written errors.old) (E.written errors.new) }
 {

@@ -65,6 +65,7 @@ impl From<AllocError> for Fault {
 
     ghost from_gives = { λ _ fault. fault ≡ Memory };
 
+    /// Makes a lack of memory a command's fault.
     fn from(_error: AllocError) -> Fault {
         Fault::Memory
     }
@@ -95,7 +96,7 @@ fn refusal_status(number: Option<u8>) -> u8
     }
 }
 
-/// Writes a word and a number.
+/// Writes a word, and directly after it a number in decimal, as ` row 7`.
 pub(crate) fn push_with_count<E: Sink>(
     errors: &mut E,
     word: &[u8],
@@ -109,7 +110,7 @@ pub(crate) fn push_with_count<E: Sink>(
     errors.push(Buffer::new().format(count).as_bytes())
 }
 
-/// Writes a word, a number and an LF.
+/// Writes a word, and directly after it a number in decimal and an LF.
 pub fn push_counted_line<E: Sink>(errors: &mut E, word: &[u8], count: u64) -> Result<(), Failed>
     ensures bytes { OnOk result (Appends (E.written errors.old) (E.written errors.new)
         (counted_line word.now count)) }

@@ -102,7 +102,7 @@ pub fn fault_of_live(fault: LiveFault) -> Fault
     }
 }
 
-/// Returns the choices of a live run, read from its schedule, or why the run was broken off. Its schedule has no fault.
+/// Returns the choices of a live run, read from its schedule, which fails only without memory, or why it was broken off.
 fn runs_of(alloc: Global, ran: Result<LiveRun, LiveFault>) -> Result<Vec<Run>, Fault>
     requires few { IfOk ran (λ run. length run.schedule.items ≤ 4000000000) }
     ensures runs { IfOk result (λ runs. All IsRun runs.items) }

@@ -21,9 +21,9 @@ use std::alloc::Global;
 use std::sync::Wait;
 use std::thread::Threads;
 
-/// `parties` threads call `arriveAndAwaitAdvance` `rounds` times each, on one shared phaser with as many parties. Writes the
-/// line `phase A parties B unarrived C` of the closed phaser to `output`. Returns the exit status: 0, or 4 with the line
-/// `memory` or `spawn` on `errors`, or 5 with `write`. The numbers may be any.
+/// Lets `parties` threads call `arriveAndAwaitAdvance` `rounds` times each, on one shared phaser with as many parties. Writes
+/// the line `phase A parties B unarrived C` of the closed phaser to `output`. Returns the exit status: 0; 4 with the line
+/// `memory` or `spawn` on `errors`; or 5 with `write`. Any numbers are allowed.
 pub fn race_cmd<R: Threads + Wait + Sync, K: Sink, E: Sink>(
     rt: &R,
     alloc: Global,

@@ -12,8 +12,8 @@ use std::alloc::Global;
 use trace_text::{RunEnd, run_to_end};
 
 /// Plays the program in `file` under the schedule in `schedule`, read piece by piece, and writes the trace to `output`. Returns
-/// the exit status: 0 if it was played, even if a choice was refused or threads wait for ever. Otherwise `errors` gets one line:
-/// `refused ..` (3) for a fault of the program or the schedule, `memory` (4), or `read` or `write` (5).
+/// the exit status: 0 if it was played, even if a choice was refused or threads wait for ever. Otherwise `errors` gets one
+/// line: `refused ..` (3) for a fault of the program or the schedule, `memory` (4), or `read` or `write` (5).
 pub fn run_cmd<F: Source, S: Source, K: Sink, E: Sink>(
     alloc: Global,
     file: &mut F,

@@ -6,6 +6,7 @@ ghost use Rattle.workbench.specs.RunLine.{is_run_line, program_part, schedule_pa
 
 use line_reader::words::{before_comment, is_blank, length_before};
 
+/// Returns how many words a text has, separated by blanks.
 fn count_words(text: &[u8]) -> usize
     ensures { result ≡ length (words_in text.now) }
 {

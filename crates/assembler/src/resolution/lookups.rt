@@ -19,7 +19,7 @@ use row_code::{
     DeclaredBarrier, DeclaredPhaser, DeclaredPolicy, DeclaredThread, Operands, row_with,
 };
 
-/// Returns the number of a phaser's parent: `Some(None)` for a root.
+/// Returns the number of a phaser's parent, or `Some(None)` if it has no parent. `None`: the parent's name is unknown.
 fn parent_of<'a>(draft: &Draft<'a>, parent: &Option<Reference<&'a [u8]>>) -> Option<Option<u8>>
     requires { let parent = option_map reference_seen parent.now in
         IfSome (option_map (referent_or_0 draft.now kind.Phaser) parent) (λ n. n < 64) }
@@ -36,7 +36,7 @@ fn parent_of<'a>(draft: &Draft<'a>, parent: &Option<Reference<&'a [u8]>>) -> Opt
     }
 }
 
-/// Returns the policy of a phaser, with the number of its routine's row.
+/// Returns the policy of a phaser, with the number of its routine's row. `None`: the routine's name is unknown.
 fn policy_of<'a>(draft: &Draft<'a>, policy: &SymbolicPolicy<&'a [u8]>) -> Option<DeclaredPolicy>
     ensures { result ≡ (if is_policy_known draft.now (policy_seen policy.now)
         then Some (policy_of draft.now (policy_seen policy.now)) else None) }
@@ -52,7 +52,7 @@ fn policy_of<'a>(draft: &Draft<'a>, policy: &SymbolicPolicy<&'a [u8]>) -> Option
     }
 }
 
-/// Returns the phaser that a line declares.
+/// Returns the phaser that a line declares, with numbers in place of names. `None`: one of the names is unknown.
 pub fn phaser_of<'a>(draft: &Draft<'a>, phaser: &SymbolicPhaser<&'a [u8]>) -> Option<DeclaredPhaser>
     requires { IsPhaser (phaser_of draft.now (phaser_seen phaser.now)) }
     ensures { result ≡ (if are_known draft.now (statement.Phaser (phaser_seen phaser.now))
@@ -68,7 +68,7 @@ pub fn phaser_of<'a>(draft: &Draft<'a>, phaser: &SymbolicPhaser<&'a [u8]>) -> Op
     })
 }
 
-/// Returns the barrier that a line declares.
+/// Returns the barrier that a line declares, with the number of its action's row. `None`: the action's name is unknown.
 pub fn barrier_of<'a>(
     draft: &Draft<'a>,
     barrier: &SymbolicBarrier<&'a [u8]>,
@@ -86,7 +86,7 @@ pub fn barrier_of<'a>(
     })
 }
 
-/// Returns the thread that a line declares.
+/// Returns the thread that a line declares, with the number of its first row. `None`: the row's name is unknown.
 pub fn thread_of<'a>(draft: &Draft<'a>, thread: &SymbolicThread<&'a [u8]>) -> Option<DeclaredThread>
     ensures { result ≡ (if are_known draft.now (statement.Thread (thread_seen thread.now))
         then Some (thread_of draft.now (thread_seen thread.now)) else None) }
@@ -95,8 +95,8 @@ pub fn thread_of<'a>(draft: &Draft<'a>, thread: &SymbolicThread<&'a [u8]>) -> Op
     Some(DeclaredThread { first_row })
 }
 
-/// Puts one more operand of a row before these: a register becomes `a`, and those in `a` and `b` become `b` and `c`. Another
-/// operand goes to its field, the number of a named object too.
+/// Returns these operands with one more before them. A register becomes `a`, and those in `a` and `b` become `b` and `c`.
+/// Another operand goes to its field, the number of a named object too. `None`: the operand is an unknown name.
 #[inline(always)]
 fn with_operand<'a>(
     draft: &Draft<'a>,
@@ -130,7 +130,7 @@ fn with_operand<'a>(
     }
 }
 
-/// Returns the operands of a row's last two places, and R0 or 0 for those that the row, as most rows, doesn't have.
+/// Returns the operands of a row's last two places, which most rows don't have: then they are R0 or 0. `None`: an unknown name.
 #[inline(always)]
 fn last_operands<'a>(draft: &Draft<'a>, row: &KeptRow<'a>) -> Option<Operands>
     ensures { let last = operand_kept row.now.held row.now.third
@@ -152,7 +152,8 @@ fn last_operands<'a>(draft: &Draft<'a>, row: &KeptRow<'a>) -> Option<Operands>
     with_operand(draft, &row.held, row.third, operands)
 }
 
-/// Returns the row of a line. Operands are added from right to left, because each register shifts those after it.
+/// Returns the row of a line, or `None` if it has an unknown name. It adds operands from right to left, because each register
+/// shifts those after it.
 #[inline(always)]
 pub fn row_of<'a>(draft: &Draft<'a>, row: &KeptRow<'a>) -> Option<Row>
     ensures { result

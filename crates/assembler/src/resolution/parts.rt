@@ -34,7 +34,7 @@ impl Model for Parts {
     } };
 }
 
-/// Appends what was found, if anything, and returns whether it was found.
+/// Appends what was found, and returns true. If it is `None`, a name was unknown: this appends nothing and returns false.
 fn push_found<T: Drop>(list: &mut Vec<T>, found: Option<T>) -> Result<bool, AllocError>
     ensures found { IfOk result (λ known. known ≡ is_some found) }
     ensures list { IfOk result (λ _. list.new.items ≡ list.old.items ++ cons_option found []) }
@@ -49,7 +49,7 @@ fn push_found<T: Drop>(list: &mut Vec<T>, found: Option<T>) -> Result<bool, Allo
 }
 
 impl Parts {
-    /// Makes four empty lists.
+    /// Makes the four lists of an image without lines: they are empty.
     pub fn new(alloc: Global) -> Parts
         ensures { result ≡ image_of [] }
     {
@@ -61,7 +61,8 @@ impl Parts {
         }
     }
 
-    /// Adds what a line adds to an image, and returns true, or false if it has an unknown name. Cells and labels add nothing.
+    /// Appends a line's object or row to its list, and returns true. Returns false if it has an unknown name. Cells and labels
+    /// add nothing.
     pub fn add<'a>(&mut self, draft: &Draft<'a>, line: &KeptLine<'a>) -> Result<bool, AllocError>
         requires { AllByRecursion IsPhaser (phasers_in draft.now (statement_kept line.now)) }
         ensures known { IfOk result (λ known. known
@@ -88,7 +89,7 @@ impl Parts {
         }
     }
 
-    /// Returns the lists as an image, whose limits they fulfil.
+    /// Returns the lists as an image. They fulfil its limits, so no `unwrap` fails.
     pub fn into_image(self) -> Image
         requires { IsImage self }
         ensures { result ≡ self }

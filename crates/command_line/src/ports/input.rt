@@ -18,6 +18,7 @@ pub enum InputOf<'a, F, S> {
 impl<'a, F: Read, S: Read> Read for InputOf<'a, F, S> {
     ghost remaining = { left_of F.remaining S.remaining };
 
+    /// Reads from the file or from standard input, or moves what fits from the text in memory.
     fn read(&mut self, buffer: &mut [u8]) -> io::Result<usize>
         ensures bound { ReadsAtMost result buffer.new }
         ensures bytes { ReadConsumes (left_of F.remaining S.remaining self.old)

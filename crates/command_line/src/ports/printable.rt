@@ -28,7 +28,7 @@ pub fn output<W>(rt: &HostRuntime, writer: W) -> Printable<W>
     }
 }
 
-/// Returns a writer for standard error.
+/// Returns a writer for standard error that replaces what a terminal shouldn't get.
 pub fn errors(rt: &HostRuntime) -> Printable<Stderr> {
     Printable {
         writer: rt.stderr(),
@@ -36,7 +36,7 @@ pub fn errors(rt: &HostRuntime) -> Printable<Stderr> {
     }
 }
 
-/// The byte that a terminal is shown in place of one.
+/// Returns what is written to a terminal for this byte: printable ASCII and LF stay, a tab is a blank, all else is `?`.
 fn shown(byte: u8) -> u8
     ensures byte { result ≡ shown_for byte }
     ensures shown { IsShown result }
@@ -65,6 +65,7 @@ impl<W: Write> Write for Printable<W> {
     // What a terminal shows is unknown.
     ghost contents = { λ w. if w.is_terminal then None else W.contents w.writer };
 
+    /// Writes bytes, to a terminal at most 512 of them as `shown` has them. Returns how many of these bytes are written.
     fn write(&mut self, bytes: &[u8]) -> io::Result<usize>
         ensures bound { WritesAtMost result bytes.now }
         ensures bytes { WriteAppends (if self.old.is_terminal then None else W.contents self.old.writer)
@@ -81,6 +82,7 @@ impl<W: Write> Write for Printable<W> {
         self.writer.write(&piece[..count])
     }
 
+    /// Flushes the writer below.
     fn flush(&mut self) -> io::Result<()> {
         self.writer.flush()
     }

@@ -13,20 +13,20 @@ pub struct Reason {
 }
 
 impl Reason {
-    /// No call has failed yet.
+    /// Returns a place for a reason, in which none is kept: no call has failed yet.
     pub fn none() -> Reason {
         Reason {
             code: AtomicI32::new(0),
         }
     }
 
-    /// Keeps the reason of an error.
+    /// Keeps the system's number of this error, to report it later. An error without a number is kept as none.
     pub fn keep(&self, error: &io::Error) {
         self.code
             .store(error.raw_os_error().unwrap_or(0), Ordering::SeqCst);
     }
 
-    /// Returns the error, if a call has failed.
+    /// Returns the error that was kept last. None if no call has failed, or the error had no number.
     pub fn error(&self) -> Option<io::Error> {
         match self.code.load(Ordering::SeqCst) {
             0 => None,
@@ -52,6 +52,7 @@ impl<'a, T> Reasoned<'a, T> {
 impl<'a, R: Read> Read for Reasoned<'a, R> {
     ghost remaining = { λ r. R.remaining r.inner };
 
+    /// Reads as the reader below does. If that fails, its reason is kept.
     fn read(&mut self, buffer: &mut [u8]) -> io::Result<usize>
         ensures bound { ReadsAtMost result buffer.new }
         ensures bytes { ReadConsumes (R.remaining self.old.inner) (R.remaining self.new.inner) result buffer.new }
@@ -67,6 +68,7 @@ impl<'a, R: Read> Read for Reasoned<'a, R> {
 impl<'a, W: Write> Write for Reasoned<'a, W> {
     ghost contents = { λ w. W.contents w.inner };
 
+    /// Writes as the writer below does. If that fails, its reason is kept.
     fn write(&mut self, bytes: &[u8]) -> io::Result<usize>
         ensures bound { WritesAtMost result bytes.now }
         ensures bytes { WriteAppends (W.contents self.old.inner) (W.contents self.new.inner) result bytes.now }
@@ -78,6 +80,7 @@ impl<'a, W: Write> Write for Reasoned<'a, W> {
         answer
     }
 
+    /// Flushes the writer below. If that fails, its reason is kept.
     fn flush(&mut self) -> io::Result<()> {
         let answer = self.inner.flush();
         if let Err(error) = &answer {

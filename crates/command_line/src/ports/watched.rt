@@ -67,7 +67,7 @@ pub fn lines_in(bytes: &[u8]) -> u64
     lines + u64::from(lines_in_piece(left))
 }
 
-/// Where the last line of these bytes begins: behind the last LF, or at 0.
+/// Returns where the last line of these bytes begins: behind the last LF, or at 0.
 fn last_line(bytes: &[u8]) -> usize {
     let end = bytes.iter().rposition(|byte| *byte == b'\n');
     end.map_or(0, |end| end.saturating_add(1))
@@ -117,16 +117,17 @@ impl<S> Watched<S> {
             self.drop_lines();
         }
         if self.kept.extend_from_slice(bytes).is_err() {
+            // Some bytes are lost: with this number no later question about a place has an answer.
             self.before = u64::MAX;
         }
     }
 
-    /// Returns all bytes that the source gave, if none were dropped.
+    /// Returns all bytes that the source gave. None if some were dropped, or couldn't be kept.
     pub fn whole(&self) -> Option<&[u8]> {
         (self.before == 0).then_some(self.kept.as_slice())
     }
 
-    /// Returns the line of the byte at this offset, as far as it is kept, and the byte's place in that.
+    /// Returns the line of the byte at this offset, as far as it is kept, and the byte's place in that. None if it isn't kept.
     pub fn line_of(&self, offset: u64) -> Option<(Line<'_>, usize)> {
         let at = usize::try_from(offset.checked_sub(self.before)?).ok()?;
         let front = self.kept.as_slice().get(..at)?;
@@ -145,7 +146,7 @@ impl<S> Watched<S> {
         Some((line, at.checked_sub(begin)?))
     }
 
-    /// Returns the line of this number, from 1, if it is still kept.
+    /// Returns the line of this number, from 1. None if it isn't kept any more, or hasn't come.
     pub fn line(&self, number: u64) -> Option<Line<'_>> {
         let at = usize::try_from(number.checked_sub(self.lines)?.checked_sub(1)?).ok()?;
         Some(Line {
@@ -163,6 +164,7 @@ impl<S: Source> Source for Watched<S> {
 
     ghost reads = { λ s. S.reads s.source };
 
+    /// Pulls bytes from the source, and keeps a copy of them, so that a fault's place can be shown.
     fn pull(&mut self, buffer: &mut [u8]) -> Result<usize, Failed>
         ensures failed { FailsForGood (S.has_failed self.old.source) (S.has_failed self.new.source) result }
         ensures bound { IfOk result (λ n. n ≤ length buffer.new) }

@@ -7,8 +7,8 @@ use crate::answer::Entered;
 
 /// A thread comes to the barrier, and runs its action if it is the last.
 impl Barrier {
-    /// `await`, up to where it would wait. The thread arrives, or the result says why not. `interrupted` is its interrupted
-    /// status, which the caller clears if the result is `Interrupted`. `Busy` and `Own` change nothing.
+    /// Plays `await` up to where it would wait. The thread arrives, or the result says why not. `interrupted` is its
+    /// interrupted status, which the caller clears if the result is `Interrupted`. `Busy` and `Own` change nothing.
     pub fn enter(&mut self, thread: u8, interrupted: bool) -> Entered
         requires thread { thread < 64 }
         requires no_wait { wait_at self.old.waits thread ≡ None }
@@ -18,7 +18,7 @@ impl Barrier {
         self.enter_timed(thread, interrupted, false)
     }
 
-    /// `await` with a time, up to where it would wait. `no_wait` says that no time is left: then a thread that would wait
+    /// Plays `await` with a time, up to where it would wait. `no_wait` says that no time is left: then a thread that would wait
     /// breaks the barrier, and the result is `TimedOut`.
     pub fn enter_timed(&mut self, thread: u8, interrupted: bool, no_wait: bool) -> Entered
         requires thread { thread < 64 }
@@ -46,7 +46,7 @@ impl Barrier {
         }
     }
 
-    /// `await` while no thread runs the action. It checks in this order: broken, interrupted, the last to arrive, no time.
+    /// Plays `await` while no thread runs the action. It checks in this order: broken, interrupted, last to arrive, no time.
     fn arrive(&mut self, thread: u8, interrupted: bool, no_wait: bool) -> Entered
         requires thread { thread < 64 }
         requires no_wait { wait_at self.old.waits thread ≡ None }
@@ -69,7 +69,7 @@ impl Barrier {
         }
     }
 
-    /// The last thread arrives. It becomes the runner of the action, or the barrier trips if it has no action.
+    /// Lets the last thread arrive. It becomes the runner of the action (`Run`), or without an action the barrier trips.
     fn arrive_last(&mut self, thread: u8) -> Entered
         requires no_runner { self.old.runner ≡ None }
         requires whole { self.old.broken ≡ false }
@@ -86,7 +86,7 @@ impl Barrier {
         }
     }
 
-    /// A thread that isn't the last begins to wait. Returns its arrival index: how many others are still to arrive.
+    /// Lets a thread that isn't the last begin to wait. Returns `Wait` with its arrival index: how many are still to arrive.
     fn add_wait(&mut self, thread: u8) -> Entered
         requires thread { thread < 64 }
         requires no_wait { wait_at self.old.waits thread ≡ None }

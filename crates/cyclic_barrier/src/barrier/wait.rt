@@ -15,7 +15,7 @@ impl Barrier {
         self.waits.get(thread)
     }
 
-    /// Returns whether the thread still waits, or how it was released. It has a wait.
+    /// Returns whether the thread still waits, or how it was released. Its caller knows that the thread has a wait here.
     pub fn look(&self, thread: u8) -> WaitState
         requires thread { thread < 64 }
         requires wait { wait_at self.now.waits thread ≢ None }
@@ -47,7 +47,7 @@ impl Barrier {
         self.leave(thread);
     }
 
-    /// Ends the time of a waiting thread: the barrier breaks, and the thread's wait is forgotten (`TimeoutException`).
+    /// Lets a waiting thread's time run out. It does to the barrier what `interrupt` does: only the exception is another one.
     pub fn expire(&mut self, thread: u8)
         requires thread { thread < 64 }
         requires waiting { wait_at self.old.waits thread ≡ Some Waiting }

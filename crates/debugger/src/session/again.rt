@@ -32,8 +32,8 @@ impl Debugger {
         Ok(())
     }
 
-    /// Returns a debugger of this machine, with the breakpoints and the room of `self`, that has played the first `count` choices
-    /// of runs. If none of these is refused, it fails only if it is out of memory.
+    /// Returns a debugger of this machine, with the breakpoints and the room of `self`, that has played the first `count`
+    /// choices of runs. If none of these is refused, it fails only if it is out of memory.
     pub fn again(&self, machine: Machine, runs: &[Run], count: u64) -> Result<Debugger, StepFault>
         ensures history { IfOk result (λ again.
             IsHistory (world_of machine) (take count (choices_of runs.now)) again) }
@@ -58,7 +58,7 @@ impl Debugger {
         }
     }
 
-    /// Returns a debugger of this machine, with the room of `self`, whose rows can't have breakpoints.
+    /// Returns a debugger of this machine, with the room of `self` and no rows for breakpoints, so that none stops `again`.
     fn unmarked(&self, machine: Machine) -> Result<Debugger, AllocError>
         ensures { IfOk result (λ unmarked. unmarked ≡ record { machine = machine; past = []; kept = self.now.kept; breaks = [] }) }
     {

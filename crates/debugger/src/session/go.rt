@@ -53,8 +53,8 @@ impl Debugger {
         }
     }
 
-    /// Plays `choice` if `stop` says that all choices before it were played, and returns where this stops. So a stream of
-    /// choices stops where `go` would stop.
+    /// Plays `choice` if `stop` says that all choices before it were played, and returns where this stops. Otherwise it returns
+    /// `stop`. So a stream of choices stops where `go` would stop.
     pub fn go_on(&mut self, stop: Stop, choice: Choice) -> Stop
         requires few { (played : ℕ) → stop ≡ Stop.End played → played ≤ 1000000000000 }
         ensures { (before : Session) (choices : List Choice) → Stops before choices stop self.old

@@ -32,6 +32,7 @@ impl From<AllocError> for CommandFault {
 
     ghost from_gives = { λ _ fault. fault ≡ Memory };
 
+    /// Returns `Memory`, so that `?` can pass on a failed allocation.
     fn from(_error: AllocError) -> CommandFault {
         CommandFault::Memory
     }
@@ -43,6 +44,7 @@ impl From<Failed> for CommandFault {
 
     ghost from_gives = { λ _ fault. fault ≡ Write };
 
+    /// Returns `Write`, so that `?` can pass on a failed output.
     fn from(_failed: Failed) -> CommandFault {
         CommandFault::Write
     }
@@ -100,7 +102,7 @@ fn say_row<W: Sink>(output: &mut W, is_there: bool, word: &[u8], row: usize) -> 
     }
 }
 
-/// Writes a line that is already made.
+/// Writes a complete line. It fails only with `Write`.
 fn say_line<W: Sink>(output: &mut W, line: &LineEnd) -> Result<(), CommandFault>
     ensures line { OnOk result (Appends (W.written output.old) (W.written output.new) line.now) }
     ensures fault { IfErr result (λ fault. (fault ≡ CommandFault.Write) × IsTrue (W.has_failed output.new)) }
@@ -111,7 +113,7 @@ fn say_line<W: Sink>(output: &mut W, line: &LineEnd) -> Result<(), CommandFault>
     }
 }
 
-/// Returns true after a command, since the session goes on after any but `q`, or the command's fault.
+/// Returns true, since the session goes on after any command but `q`, or the command's fault.
 fn going_on(done: Result<(), CommandFault>) -> Result<bool, CommandFault>
     ensures more { IfOk result (λ more. (more ≡ true) × (done ≡ Ok tt)) }
     ensures fault { IfErr result (λ fault. done ≡ Err fault) }

@@ -26,7 +26,7 @@ impl Model for RowLine {
 }
 
 impl RowLine {
-    /// Returns an empty line.
+    /// Makes a line that is still empty.
     pub fn new() -> RowLine
         ensures { result ≡ [] }
     {
@@ -36,14 +36,14 @@ impl RowLine {
         }
     }
 
-    /// Returns what is in the line.
+    /// Returns the bytes that were put into the line so far.
     pub fn as_slice(&self) -> &[u8]
         ensures { result.now ≡ self.now }
     {
         &self.bytes[..self.len]
     }
 
-    /// Appends a word, for which there is room.
+    /// Appends a word. The caller has checked that there is room for it.
     #[inline(always)]
     pub fn put_word(&mut self, word: &[u8])
         requires { length self.old + length word.now ≤ 64 }

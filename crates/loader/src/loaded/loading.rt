@@ -26,7 +26,7 @@ fn counts_in(image: &Image) -> Counts
     }
 }
 
-/// Returns the first fault of the threads, else of the rows, else of the end of the rows.
+/// Returns the first fault of the threads, else of the rows, else of the end of the rows. `None`: there is none.
 fn code_fault(image: &Image) -> Option<LoadFault>
     ensures { result ≡ earliest (earliest_in (thread_fault (length image.now.rows)) 0 image.now.threads
         ∷ earliest_in (row_fault (counts_in image.now)) 0 image.now.rows

@@ -61,7 +61,7 @@ impl Stage {
         }
     }
 
-    /// `cawait` and `cawaitt`: throws 1 inside the barrier's action, 6 if an action would find the stack full, or enters.
+    /// Plays `cawait` or `cawaitt`: throws 1 inside the barrier's action, 6 if an action would find the stack full, or enters.
     #[inline(always)]
     fn come(&mut self, program: &Loaded, no_wait: bool, into: Reg, barrier: u16, t: usize) -> Event
         requires ready { is_some (unless_busy barrier t (scene_of self.old) (unless_runner barrier t (scene_of self.old)
@@ -125,7 +125,7 @@ impl Stage {
         }
     }
 
-    /// `creset`: throws 1 inside the barrier's action. The event has a mark if threads were waiting.
+    /// Plays `creset`: throws 1 inside the barrier's action. The event shows that the barrier broke if threads were waiting.
     fn reset(&mut self, barrier: u16, t: usize) -> Event
         requires ready { is_some (unless_busy barrier t (scene_of self.old) (unless_runner barrier t (scene_of self.old)
             (Some (outcome_of_reset barrier t (scene_of self.old))))) ≡ true }
@@ -151,7 +151,7 @@ impl Stage {
         }
     }
 
-    /// `cwaiting`: puts into a register how many threads wait, or throws 1 inside the barrier's action.
+    /// Plays `cwaiting`: puts into a register how many threads wait, or throws 1 inside the barrier's action.
     fn number_waiting(&mut self, into: Reg, barrier: u16, t: usize) -> Event
         requires ready { is_some (unless_busy barrier t (scene_of self.old) (unless_runner barrier t (scene_of self.old)
             (Some (outcome_of_turn (turn_of_answer into (pos (number_waiting (barrier_at (scene_of self.old) barrier)))

@@ -41,7 +41,7 @@ impl Stage {
         }
     }
 
-    /// `ret`: returns from the call, the routine or the action on top of the stack. Throws 7 if there is a handler or nothing.
+    /// Plays `ret`: returns from the call, routine or action on top of the stack. Throws 7 if there is a handler, or no entry.
     fn ret(&mut self, program: &Loaded, t: usize) -> Event
         requires sound { IsSound program.now most_before (scene_of self.old) }
         requires thread { t < length self.old.threads }
@@ -69,7 +69,7 @@ impl Stage {
         }
     }
 
-    /// Ends a routine, which returns true unless R0 is 0. Its thread goes back to the arrival's `row`, with its `registers`.
+    /// Ends a routine, whose R0 says whether to terminate (not 0). Its thread goes back to the arrival's `row` and `registers`.
     fn end_routine(
         &mut self,
         program: &Loaded,
@@ -98,8 +98,8 @@ impl Stage {
         self.take_answer(manner, root, terminates, t)
     }
 
-    /// Ends the phase as the routine says. If the tree was terminated meanwhile, the arrival only gets its result: the view if
-    /// it waits, and otherwise the phase.
+    /// Ends the phase, and terminates the tree if the routine asked for it. If the tree was terminated meanwhile, the arrival
+    /// only gets its result: the negative phase if it waits, and otherwise the phase's own number.
     #[tactic(auto, using(tier_tree::proofs::Changed::changed_nothing))]
     fn take_answer(&mut self, manner: Manner, root: PhaserId, terminates: bool, t: usize) -> Event
         requires there { root.0 < length self.old.phasers }

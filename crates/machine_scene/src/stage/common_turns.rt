@@ -16,7 +16,7 @@ use thread_state::{Event, Status};
 /// The turns that are most frequent in most programs: rows that use only registers, arrivals of parties that stay, and the ends
 /// of waits for phases.
 impl Stage {
-    /// Plays `turn` if it is one of these turns. Otherwise it changes nothing and returns `None`, and the caller plays `turn`.
+    /// Plays a thread's turn if it is one of these. `None`: it isn't, nothing has changed, and the caller calls `turn` instead.
     #[inline(always)]
     pub fn common_turn(&mut self, program: &Loaded, t: usize) -> Option<Event>
         requires sound { IsSound program.now most_before (scene_of self.old) }
@@ -39,7 +39,7 @@ impl Stage {
         }
     }
 
-    /// Plays a common turn by what the thread is doing, and doesn't change the sets of ready threads. `None`: it isn't common.
+    /// Plays a common turn. The caller updates the sets of ready threads. `None`: it isn't common, and nothing has changed.
     #[inline(always)]
     fn common_by_status(&mut self, program: &Loaded, row: Row, t: usize) -> Option<Event>
         requires at { StandsAt program.now row t self.old }
@@ -67,8 +67,8 @@ impl Stage {
         }
     }
 
-    /// Plays `parr` or `paaa`. At another row, or if a thread is about to register, which an arrival may make ready or not, it
-    /// changes nothing and returns `None`.
+    /// Plays `parr` or `paaa`. `None`, with nothing changed, if it is another row, or if a thread is about to register: an
+    /// arrival may make that one ready or not.
     #[inline(always)]
     fn common_arrival(&mut self, program: &Loaded, row: Row, t: usize) -> Option<Event>
         requires at { StandsAt program.now row t self.old }

@@ -35,7 +35,7 @@ impl Stage {
         }
     }
 
-    /// `out`: appends a register's number to the thread's output. `Err`: no memory, and nothing has changed.
+    /// Plays `out`: appends a register's number to the thread's output. `Err`: no memory, and nothing has changed.
     fn out(&mut self, value: Reg, t: usize) -> Result<Event, AllocError>
         requires plays { CanPlay t self.old }
         ensures ok { IfOk result (λ event. record { scene = scene_of self.new; event = event }
@@ -47,7 +47,7 @@ impl Stage {
         Ok(alone(self.threads[t].out(value)?))
     }
 
-    /// `lds`: puts a cell's number into a register.
+    /// Plays `lds`: puts a cell's number into a register.
     fn load(&mut self, into: Reg, cell: u16, t: usize) -> Event
         requires cell { cell < 32 }
         requires plays { CanPlay t self.old }
@@ -59,7 +59,7 @@ impl Stage {
         alone(self.threads[t].answer(into, number))
     }
 
-    /// `self`: puts the thread's own number into a register.
+    /// Plays `self`: puts the thread's own number into a register.
     fn own_number(&mut self, into: Reg, t: usize) -> Event
         requires plays { CanPlay t self.old }
         ensures outcome { record { scene = scene_of self.new; event = result }
@@ -69,7 +69,7 @@ impl Stage {
         alone(self.threads[t].answer(into, t as i32))
     }
 
-    /// `intrd`: puts the thread's interrupted status, 1 or 0, into a register, and clears it.
+    /// Plays `intrd`: puts the thread's interrupted status, 1 or 0, into a register, and clears it.
     fn take_interrupt(&mut self, into: Reg, t: usize) -> Event
         requires plays { CanPlay t self.old }
         ensures outcome { record { scene = scene_of self.new; event = result }
@@ -79,7 +79,7 @@ impl Stage {
         alone(self.threads[t].take_interrupt(into))
     }
 
-    /// `sts`: puts a register's number into a cell.
+    /// Plays `sts`: puts a register's number into a cell.
     fn store(&mut self, from: Reg, cell: u16, t: usize) -> Event
         requires cell { cell < 32 }
         requires plays { CanPlay t self.old }
@@ -90,7 +90,7 @@ impl Stage {
         alone(self.threads[t].done())
     }
 
-    /// `intr`: thread t interrupts thread `other`, or itself.
+    /// Plays `intr`: thread t interrupts thread `other`, which may be itself.
     fn interrupt(&mut self, other: usize, t: usize) -> Event
         requires other { other < length self.old.threads }
         requires plays { CanPlay t self.old }

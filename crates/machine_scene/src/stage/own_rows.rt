@@ -8,7 +8,7 @@ use instruction_table::{Row, is_local};
 use thread_state::Event;
 
 impl Stage {
-    /// Plays a row that uses only the thread's registers and the number of its next row.
+    /// Plays a local row: one that uses only the thread's registers and the number of its next row.
     #[inline(always)]
     #[tactic(auto, using(crate::proofs::LocalTurns::own_outcome))]
     pub(super) fn local_row(&mut self, row: Row, t: usize) -> Event
@@ -22,7 +22,7 @@ impl Stage {
         alone(self.threads[t].local_row(row))
     }
 
-    /// Plays a row of this group: a local one, or `halt`.
+    /// Plays a row that concerns only its own thread: a local one, or `halt`.
     pub(super) fn own_row(&mut self, row: Row, t: usize) -> Event
         requires ready { is_some (outcome_of_own_row row t (scene_of self.old)) ≡ true }
         requires plays { CanPlay t self.old }
@@ -37,7 +37,7 @@ impl Stage {
         }
     }
 
-    /// `halt`, the only row of this group that isn't local.
+    /// Plays `halt`, which ends the thread. It is the only row of this group that isn't local.
     fn halt_row(&mut self, row: Row, t: usize) -> Event
         requires ready { is_some (outcome_of_own_row row t (scene_of self.old)) ≡ true }
         requires apart { is_local_row row ≡ false }

@@ -43,7 +43,7 @@ fn wait_with(thread: &mut Thread, patience: Patience, phase: i32) -> What
     }
 }
 
-/// `awaitAdvance`: a negative phase is returned, and so is the view of a phaser in another phase. Otherwise it waits.
+/// Plays `awaitAdvance`: returns `phase` if it is negative, or `view`, the phaser's own phase, if that differs. Else it waits.
 fn await_phase(thread: &mut Thread, patience: Patience, into: Reg, phase: i32, view: i32) -> What
     requires { thread.old.pc < 65535 }
     ensures { record { thread = thread.new; what = result }
@@ -58,7 +58,7 @@ fn await_phase(thread: &mut Thread, patience: Patience, into: Reg, phase: i32, v
     wait_with(thread, patience, phase)
 }
 
-/// After an arrival that isn't the last: `paaa` waits for the end of the phase, and other rows return the phase.
+/// Plays what follows an arrival that isn't the last: `paaa` waits for the end of the phase, and other rows return the phase.
 fn wait_or_answer(thread: &mut Thread, manner: Manner, phase: i32) -> What
     requires { thread.old.pc < 65535 }
     ensures { record { thread = thread.new; what = result } ≡ turn_of_arrival manner phase thread.old }
@@ -127,7 +127,7 @@ impl Stage {
         self.threads[t].advances(root.0)
     }
 
-    /// `preg`: registers one party, or throws 1 inside the tree's own routine.
+    /// Plays `preg`: registers one party, or throws 1 inside the tree's own routine.
     #[tactic(auto, using(tier_tree::proofs::Changed::changed_nothing))]
     fn register(&mut self, into: Reg, phaser: u16, t: usize) -> Event
         requires ready { is_some (unless_own phaser t (scene_of self.old)
@@ -145,7 +145,7 @@ impl Stage {
         self.registration(into, phaser, 1, t)
     }
 
-    /// `pbulk`: registers parties. Throws 1 inside the tree's own routine, and 2 for a negative count.
+    /// Plays `pbulk`: registers parties. Throws 1 inside the tree's own routine, and 2 for a negative count.
     #[tactic(auto, using(tier_tree::proofs::Changed::changed_nothing))]
     fn register_many(&mut self, into: Reg, phaser: u16, count: Reg, t: usize) -> Event
         requires ready { is_some (unless_own phaser t (scene_of self.old)
@@ -168,7 +168,7 @@ impl Stage {
         self.registration(into, phaser, count as u32, t)
     }
 
-    /// Registers parties, which isn't held. Puts the phase, or the view if terminated, into a register. Throws 1 if too many.
+    /// Registers parties, which needn't wait now. The result is the phase, negative if terminated. Throws 1 if too many.
     fn registration(&mut self, into: Reg, phaser: u16, count: u32, t: usize) -> Event
         requires ready { is_some (outcome_of_registration into phaser count t (scene_of self.old)) ≡ true }
         requires phaser { phaser < length self.old.phasers }
@@ -186,7 +186,7 @@ impl Stage {
         }
     }
 
-    /// `parr`, `pdereg`, `paaa`: throws 1 inside the tree's own routine, 6 if a routine would find the stack full, or arrives.
+    /// Arrives, unless it throws: 1 inside the tree's own routine, 6 if a routine would find the stack full.
     #[inline(always)]
     #[tactic(auto, using(tier_tree::proofs::Changed::changed_nothing, crate::proofs::Arrivals::refused, crate::proofs::Arrivals::comes))]
     pub(super) fn arrival(
@@ -212,7 +212,7 @@ impl Stage {
         }
     }
 
-    /// Returns the exception that an arrival throws before it reaches the phaser, if any. With an empty stack there is none.
+    /// Returns the exception that an arrival throws before it reaches the phaser, or `None`. With an empty stack there is none.
     #[inline(always)]
     #[tactic(auto, using(crate::proofs::Arrivals::free))]
     fn refusal(&self, phaser: u16, t: usize) -> Option<i32>
@@ -227,7 +227,7 @@ impl Stage {
         }
     }
 
-    /// Returns 1 inside the tree's own routine, 6 if a routine would find the stack full, and otherwise no exception.
+    /// Returns 1 inside the tree's own routine, and 6 if a routine would find the stack full. `None`: nothing is thrown.
     #[inline(never)]
     fn refusal_by_stack(&self, phaser: u16, t: usize) -> Option<i32>
         requires phaser { phaser < length self.now.phasers }
@@ -277,7 +277,8 @@ impl Stage {
         }
     }
 
-    /// After the last arrival: ends the phase as the root's policy says, or enters the root's routine, which says it later.
+    /// Plays what follows the last arrival: ends the phase as the policy says, or enters the routine, which decides later. The
+    /// root isn't terminated (`live`), and the stack has room for a routine.
     #[inline(always)]
     #[tactic(auto, using(tier_tree::proofs::Changed::changed_nothing))]
     fn pending_end(
@@ -317,7 +318,7 @@ impl Stage {
         }
     }
 
-    /// Ends the phase of a turned root, and terminates its tree if `terminates`. The last arrival gets its result.
+    /// Ends the phase of a root at which all have arrived, and terminates its tree if `terminates`. Answers the last arrival.
     #[inline(always)]
     pub(super) fn end_phase(
         &mut self,
@@ -342,7 +343,7 @@ impl Stage {
         self.answer_last(manner, root, phase, t)
     }
 
-    /// Gives the last arrival its result: the view after the end for `paaa`, and otherwise the phase. The event shows the end.
+    /// Answers the last arrival: for `paaa` what `getPhase` returns now, else the ended phase. The event shows the end.
     #[inline(always)]
     fn answer_last(&mut self, manner: Manner, root: PhaserId, phase: i32, t: usize) -> Event
         requires there { root.0 < length self.old.phasers }
@@ -360,8 +361,7 @@ impl Stage {
         }
     }
 
-    /// `pawait`, `pawaiti`, `pawaitt`: throws 1 inside the tree's own routine. Otherwise waits for the end of the phase in the
-    /// register `phase`, if the phaser is in it.
+    /// Waits for the end of the phase in the register `phase`, if the phaser is in it. Throws 1 inside the tree's own routine.
     fn await_unless_own(
         &mut self,
         patience: Patience,
@@ -386,7 +386,7 @@ impl Stage {
         alone(await_phase(&mut self.threads[t], patience, into, phase, view))
     }
 
-    /// `pforce`: terminates the phaser's tree. The event has a mark unless it was terminated before.
+    /// Plays `pforce`: terminates the phaser's tree. The event shows it, unless the tree was terminated before.
     fn force(&mut self, phaser: u16, t: usize) -> Event
         requires phaser { phaser < length self.old.phasers }
         requires plays { CanPlay t self.old }

@@ -32,7 +32,8 @@ pub(super) fn may_be_blocked(row: Row) -> bool
 
 /// Which rows can be played, and which waits can end.
 impl Stage {
-    /// Returns whether a running thread has to wait before it plays the row: its registration is held, or its barrier is busy.
+    /// Returns whether a running thread has to wait before it plays the row: a registration waits for the end of the phase, or
+    /// another thread runs the barrier's action.
     #[inline(always)]
     pub(super) fn is_blocked(&self, row: Row, t: usize) -> bool
         requires named { IsNamed (counts_in self.now) row }
@@ -130,7 +131,7 @@ impl Stage {
         }
     }
 
-    /// Returns whether the thread, which isn't ready, is in a timed wait that can expire. At a busy barrier none can.
+    /// Returns whether the thread, which isn't ready, has a timed wait that can expire: none can while an action runs there.
     pub(super) fn has_time(&self, row: Row, t: usize) -> bool
         requires named { IsNamed (counts_in self.now) row }
         requires thread { t < length self.now.threads }

@@ -62,7 +62,8 @@ fn changes_tree(row: Row) -> bool
     }
 }
 
-/// Returns whether the event has a mark, or a routine or an action begins. Any other thread may then become ready or not.
+/// Returns whether a phase ends, a tree is terminated, a barrier trips or breaks, or a routine or an action begins. Then any
+/// other thread may become ready, or cease to be.
 #[inline(always)]
 fn is_loud(event: Event) -> bool
     ensures { result ≡ is_loud event }
@@ -70,7 +71,7 @@ fn is_loud(event: Event) -> bool
     !matches!(event.mark, Mark::Nothing) || matches!(event.what, What::Enters)
 }
 
-/// Returns whether a step may make any other thread ready or not, so that all are looked at. `pforce` and `creset` always do.
+/// Returns whether a step may make other threads ready or not: then all bits are computed again. `pforce` and `creset` do.
 #[inline(always)]
 fn changes_all(row: Row, event: Event) -> bool
     ensures { result ≡ changes_all row event }
@@ -92,7 +93,7 @@ impl Stage {
         is_local(row) && matches!(self.threads[t].status(), Status::Runs)
     }
 
-    /// Returns the row that a thread is at. `row_of` may be called before a step only, and this after it, too.
+    /// Returns the row that a thread is at, also after a step (`row_of`: before it only). The second call proves `SeesWait`.
     #[inline(always)]
     fn place(&self, program: &Loaded, t: usize) -> Row
         requires sound { IsSound program.now most_after (scene_of self.now) }
@@ -194,7 +195,7 @@ impl Stage {
         }
     }
 
-    /// Brings the sets up to date after a common turn of thread t at this row, with this event. Most change only t's bits.
+    /// Updates the sets after a common turn of thread t at this row, with this event. Most such turns change only t's bits.
     #[inline(always)]
     pub(super) fn settle(&mut self, program: &Loaded, row: Row, event: Event, t: usize)
         requires sound { IsSound program.now most_after (scene_of self.old) }
@@ -230,7 +231,7 @@ impl Stage {
         self.ready.turns = set_at(self.ready.turns, t, false);
     }
 
-    /// Looks at thread t, unless it runs and is at a row where no thread has to wait: then its bits are right.
+    /// Computes the bits of thread t again, unless it runs and is at a row where no thread has to wait: then they are right.
     #[inline(always)]
     fn look_ahead(&mut self, program: &Loaded, t: usize)
         requires sound { IsSound program.now most_after (scene_of self.old) }
@@ -314,7 +315,7 @@ impl Stage {
         }
     }
 
-    /// Returns the lowest thread that can take a step, if there is one.
+    /// Returns the lowest thread that can take a turn. `None`: no thread can.
     pub fn ready_thread(&self, program: &Loaded) -> Option<usize>
         requires known { KnowsReady program.now self.now }
         ensures there { IfSome result (λ t. t < length self.now.threads) }

@@ -13,14 +13,14 @@ use loader::Loaded;
 use thread_state::Frame;
 
 impl Stage {
-    /// The stored phasers fulfil the invariant of a forest.
+    /// A law: the stored phasers fulfil the invariant of a forest. It only calls the forest's own statement.
     pub(super) fn phasers_are_stored(&self)
         ensures { IsStored self.now.phasers }
     {
         self.phasers.is_forest();
     }
 
-    /// A turn at the thread's row can rely on `StandsAt`: what the row names exists, and one more phase may end.
+    /// States `StandsAt`: what the thread's row names exists, and one more phase may end. The read serves the proof.
     pub(super) fn turn_is_placed(&self, program: &Loaded, row: Row, t: usize)
         requires sound { IsSound program.now most_before (scene_of self.now) }
         requires thread { t < length self.now.threads }
@@ -30,7 +30,8 @@ impl Stage {
         let _ = &self.threads;
     }
 
-    /// A look at a wait can rely on `SeesWait`: what the row names exists, and the barrier of a waiting thread knows its wait.
+    /// States `SeesWait`: what the row names exists, and the barrier of a waiting thread knows its wait. The read serves the
+    /// proof.
     pub(super) fn wait_is_placed(&self, program: &Loaded, row: Row, t: usize)
         requires sound { IsSound program.now most_after (scene_of self.now) }
         requires thread { t < length self.now.threads }
@@ -40,7 +41,8 @@ impl Stage {
         let _ = &self.threads;
     }
 
-    /// A routine on top of the stack has a turned or terminated root, and an action on top has a barrier whose action runs.
+    /// A law: a routine on top of the stack has a turned or terminated root, and that the barrier of an action there runs
+    /// it. The read of a field serves the proof.
     #[tactic(auto, using(crate::proofs::Placed::top_placed))]
     pub(super) fn top_is_placed(&self, program: &Loaded, top: &Option<Frame>, t: usize)
         requires sound { IsSound program.now most_before (scene_of self.now) }

@@ -44,7 +44,7 @@ impl Stage {
         self.touched(reach_in(self.threads[t].status(), row, &top), touched);
     }
 
-    /// Saves what this reach names: nothing, a cell, a thread, the words from a phaser up to its root, or a barrier.
+    /// Saves in `touched` what this reach names: nothing, a cell, a thread, a phaser's words up to the root's, or a barrier.
     fn touched(&self, reach: Reach, touched: &mut Touched)
         requires { IsThere reach self.now }
         ensures { touched.new ≡ touched_by reach self.now }

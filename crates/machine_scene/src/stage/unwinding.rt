@@ -7,7 +7,7 @@ use loader::Loaded;
 use thread_state::{Event, Frame, Mark};
 
 impl Stage {
-    /// Plays a turn of a thread that throws this exception: it pops an entry, and that of an action breaks its barrier.
+    /// Plays a turn of a thread that throws this exception: it pops one stack entry. If that is an action, its barrier breaks.
     pub(super) fn unwind(&mut self, program: &Loaded, code: i32, t: usize) -> Event
         requires sound { IsSound program.now most_before (scene_of self.old) }
         requires thread { t < length self.old.threads }

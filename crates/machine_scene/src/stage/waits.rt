@@ -22,7 +22,7 @@ impl Stage {
         self.phasers.phase(self.phaser_id(phaser)) != phase
     }
 
-    /// Ends a thread's wait for a phase, at this row. `true` stands for an interruptible wait.
+    /// Ends a thread's wait for a phase, at this row. In the arms, `true` stands for an interruptible wait.
     #[inline(always)]
     pub(super) fn finish_phase_wait(&mut self, row: Row, phase: i32, t: usize) -> Event
         requires ready { is_some (outcome_of_phase_wait row phase t (scene_of self.old)) ≡ true }
@@ -42,7 +42,7 @@ impl Stage {
         }
     }
 
-    /// Ends a wait for a phase: returns the view if the phase is over, and otherwise throws 3 for an interrupt. Only the
+    /// Ends a wait for a phase: returns the phaser's phase if it is another one, or throws 3 for an interrupt. Only the
     /// contract uses `looks`: whether the wait is interruptible.
     #[inline(always)]
     fn finish_awaited(&mut self, looks: bool, into: Reg, phaser: u16, phase: i32, t: usize) -> Event
@@ -61,7 +61,7 @@ impl Stage {
         alone(self.threads[t].take_interruption())
     }
 
-    /// Returns the state of the thread's wait at the barrier. It has one.
+    /// Returns whether the thread's wait at the barrier goes on, or has ended with a trip or a breakage. It has such a wait.
     pub(super) fn wait_state(&self, barrier: u16, t: usize) -> WaitState
         requires there { barrier < length self.now.barriers }
         requires waits { wait_at (barrier_at (scene_of self.now) barrier).waits t ≢ None }
@@ -151,7 +151,7 @@ impl Stage {
         }
     }
 
-    /// Breaks the barrier at which the thread waits and isn't released. The thread throws 5.
+    /// Ends the timed wait of a thread that the barrier hasn't released: the barrier breaks, and the thread throws 5.
     fn expire_at_barrier(&mut self, barrier: u16, t: usize) -> Event
         requires unreleased { wait_at (barrier_at (scene_of self.old) barrier).waits t ≡ Some WaitState.Waiting }
         requires no_runner { (barrier_at (scene_of self.old) barrier).runner ≡ None }

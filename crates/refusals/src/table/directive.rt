@@ -47,7 +47,7 @@ const ENTRIES: [WordEntry; 5] = directives! {
         ".thread ann main\nmain: halt\n.run\nt0";
 };
 
-/// Returns the entry for a word that begins with a dot.
+/// Returns the entry of `.phaser`, `.barrier`, `.thread`, `.cell` or `.run`. None for other words.
 pub(crate) fn directive_entry(word: &str) -> Option<WordEntry>
     ensures { MatchOption result (is_directive word.now ≢ true) (λ e. e.word.now ≡ word.now) }
 {

@@ -24,7 +24,7 @@ fn row_tables() -> [&'static [WordEntry]; 7]
     ]
 }
 
-/// Returns the entry at a place in tables that follow one another.
+/// Returns the entry at this index, as if the tables were one, each following the one before. None if they have fewer entries.
 fn entry_at(tables: &[&'static [WordEntry]], place: usize) -> Option<WordEntry>
     ensures { result ≡ slice_get (flat_map (λ rows. rows.now) tables.now) place }
 {
@@ -37,7 +37,7 @@ fn entry_at(tables: &[&'static [WordEntry]], place: usize) -> Option<WordEntry>
     }
 }
 
-/// Returns the entry for the row of this opcode, 0 to 41.
+/// Returns the entry for the row of this opcode, 0 to 41. None for a larger number.
 pub fn row_entry(opcode: u8) -> Option<WordEntry>
     ensures { MatchOption result (length table ≤ opcode) (IsRowEntry opcode) }
 {

@@ -40,7 +40,7 @@ impl Model for ThreadNote {
 }
 
 impl ThreadNote {
-    /// Makes a note that says nothing, for `Thread::note` to overwrite.
+    /// Makes a note with no meaning yet: `Thread::note` overwrites it before each turn.
     pub fn new() -> ThreadNote
         ensures { result.top ≡ None }
     {

@@ -21,9 +21,11 @@ const MOST_PHASERS: usize = 64;
 
 /// A phaser is declared, and registers with its parent if it has parties.
 impl Forest {
-    /// `new Phaser(parent, parties)`, with the policy that `onAdvance` follows. A root may begin in any phase. A child has to
-    /// be declared before anything happens in its parent's tree in the present phase. It begins in that phase, and its `phase`
-    /// has to be 0. Only this call, `new` and `copy` allocate.
+    /// Adds a phaser, as `new Phaser(parent, parties)`, with the policy that `onAdvance` follows, and returns its number. A
+    /// root may begin in any phase. A child has to be declared before anything happens in its parent's tree in the present
+    /// phase. It begins in that phase; its `phase` has to be 0. `Err`: nothing changes. Only this, `new` and `copy` allocate.
+    /// The last four clauses: the other phasers keep their lines and policies, no phase ends, nobody arrives, and the new
+    /// parties are counted.
     pub fn declare(
         &mut self,
         parent: Option<PhaserId>,
@@ -58,7 +60,7 @@ impl Forest {
         }
     }
 
-    /// Returns the first fault of a declaration in the order of these checks, or `None`. Memory isn't checked.
+    /// Returns the first fault of a declaration in the order of these checks. `None`: there is none. Memory isn't checked.
     fn fault(&self, parent: Option<PhaserId>, parties: i32, phase: Phase) -> Option<DeclareFault>
         ensures { result ≡ fault_of parent parties phase (phasers_of self.now) }
     {
@@ -119,7 +121,8 @@ impl Forest {
     }
 
     /// Adds a phaser that `fault` doesn't refuse. If it has a parent and parties, registers one party with the parent, and one
-    /// further up as long as the phaser below that had no parties.
+    /// further up as long as the phaser below that had no parties. `Err`: no memory, and nothing changes. The last four clauses
+    /// are those of `declare`.
     fn add(
         &mut self,
         parent: Option<PhaserId>,

@@ -18,7 +18,7 @@ impl Forest {
         self.nodes.len()
     }
 
-    /// `getPhase`: the number of the tree's phase, less 2147483648 once the tree is terminated.
+    /// Returns `getPhase`: the number of the tree's phase, less 2147483648 once the tree is terminated.
     #[inline(always)]
     pub fn phase(&self, id: PhaserId) -> i32
         requires { id.0 < length self.now }
@@ -35,7 +35,7 @@ impl Forest {
         phase_of(word_at(self.nodes.as_slice(), id.0 as usize))
     }
 
-    /// `getRegisteredParties`: its direct parties, and one for each child that joined.
+    /// Returns `getRegisteredParties`: its direct parties, and one for each child that joined.
     #[inline(always)]
     pub fn parties(&self, id: PhaserId) -> u16
         requires { id.0 < length self.now }
@@ -44,7 +44,7 @@ impl Forest {
         word_at(self.nodes.as_slice(), id.0 as usize).parties()
     }
 
-    /// `getArrivedParties`; all of them once the tree is terminated.
+    /// Returns `getArrivedParties`: how many have arrived, or all of them once the tree is terminated.
     pub fn arrived(&self, id: PhaserId) -> u16
         requires { id.0 < length self.now }
         ensures { result ≡ (flat_at (phasers_of self.now) id.0).arrived }
@@ -52,7 +52,7 @@ impl Forest {
         word_at(self.nodes.as_slice(), id.0 as usize).arrived()
     }
 
-    /// `getUnarrivedParties`; 0 once the tree is terminated.
+    /// Returns `getUnarrivedParties`: how many are still to arrive, or 0 once the tree is terminated.
     pub fn unarrived(&self, id: PhaserId) -> u16
         requires { id.0 < length self.now }
         ensures { result ≡ unarrived_of (flat_at (phasers_of self.now) id.0) }
@@ -60,7 +60,7 @@ impl Forest {
         word_at(self.nodes.as_slice(), id.0 as usize).unarrived()
     }
 
-    /// `isTerminated`: whether the tree is terminated.
+    /// Returns `isTerminated`: whether the tree is terminated.
     pub fn is_terminated(&self, id: PhaserId) -> bool
         requires { id.0 < length self.now }
         ensures { result ≡ (flat_at (phasers_of self.now) id.0).ended }
@@ -84,7 +84,7 @@ impl Forest {
         self.nodes[id.0 as usize].ended_phases()
     }
 
-    /// `getParent`: the parent's id, or `None` for a root.
+    /// Returns `getParent`: the parent's number, or `None` for a root.
     pub fn parent(&self, id: PhaserId) -> Option<PhaserId>
         requires { id.0 < length self.now }
         ensures parent { result ≡ option_map (λ n. record { 0 = n })
@@ -98,7 +98,7 @@ impl Forest {
         }
     }
 
-    /// `getRoot`: the root's id, the phaser's own if it is a root.
+    /// Returns `getRoot`: the root's number, the phaser's own if it is a root.
     pub fn root(&self, id: PhaserId) -> PhaserId
         requires { id.0 < length self.now }
         ensures root { result.0 ≡ root_at (phasers_of self.now) id.0 }

@@ -34,7 +34,8 @@ impl Promise<Party> for Home {
 /// A running thread, and its caller.
 type Running = PromisedHandle<Party, Home>;
 
-/// Arrives and waits for the end of the phase, `rounds` times, and reports each time to `pace`. Each thread does this.
+/// Calls `arriveAndAwaitAdvance` `rounds` times, and reports each time to `pace`. Each thread does this. `let _` drops the
+/// replies, since `party` knows its calls.
 fn work<R: Wait, P: Pace>(
     rt: &R,
     phaser: &SharedPhaser,
@@ -52,7 +53,7 @@ fn work<R: Wait, P: Pace>(
     party
 }
 
-/// Makes `count` callers besides the first, one for each thread.
+/// Makes `count` callers besides the first, numbered from 1. A caller (`Party`) is what a thread makes its calls with.
 fn callers(
     alloc: Global,
     phaser: &SharedPhaser,
@@ -75,8 +76,8 @@ fn callers(
     Ok(callers)
 }
 
-/// Starts a thread for each caller, and waits until all have ended. Returns the first caller, the threads, and whether each
-/// could be started. If one can't be, it terminates the phaser, so that the others end.
+/// Starts a thread for each caller, and waits until all have ended. Returns the first caller, the threads in the callers'
+/// order, and whether each could be started. If one can't be, it terminates the phaser, so that the others end.
 fn run<R: Threads + Wait + Sync, P: Pace + Sync>(
     rt: &R,
     phaser: &SharedPhaser,
@@ -142,7 +143,7 @@ fn run<R: Threads + Wait + Sync, P: Pace + Sync>(
     )
 }
 
-/// Joins the callers of all threads, which have ended, to the first, so that it knows all their calls.
+/// Takes the caller of each thread, which has ended, and joins it to the first. Then the first knows the calls of all.
 fn gather<R: Threads>(rt: &R, phaser: &SharedPhaser, first: &mut Party, running: Vec<Running>)
     requires first { first.old.known.number ≡ 0 }
     requires phaser { phaser_of first.old ≡ phaser.now }
@@ -177,7 +178,7 @@ fn ended(phaser: SharedPhaser, first: Party, is_whole: bool) -> Result<Word, Fau
     Ok(phaser.close(first))
 }
 
-/// Returns the fault of a phaser that isn't made: it can only be out of memory.
+/// Returns why a phaser isn't made, as a command's fault. It can only be out of memory: a race uses no routine.
 fn fault_of_new(fault: NewFault) -> Fault
     requires { fault ≢ NewFault.RoutinePolicy }
     ensures { result ≡ Fault.Memory }

@@ -2,6 +2,7 @@
 
 /// Each thread of a race reports here that it has met the others once more.
 pub trait Pace {
+    /// Reports one meeting. A thread calls this after each.
     fn met(&self);
 }
 
@@ -10,5 +11,6 @@ pub trait Pace {
 pub struct NoPace;
 
 impl Pace for NoPace {
+    /// Does nothing.
     fn met(&self) {}
 }
