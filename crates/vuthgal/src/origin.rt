@@ -2,4 +2,4 @@
 
 /// The version, and the sum of the sources but for this file.
 pub const VERSION: &str =
-    "2.0.0\nsources 54342211c0b3281a70a3ba2a074fb02f4c0b4c943aa81c92f46536169a5ee276";
+    "2.0.0\nsources 4e6ea1b0f400858a7c16bbeb72a6b1b8b9bab597d2aac5ef569c28917b711fa9";

@@ -2,7 +2,7 @@
 
 /// The version, and the sum of the sources but for this file.
 pub const VERSION: &str =
-    "2.0.0\nsources 917d94285edb314cccd5e886b0c99663f25f635c5c741efa23bd5f81b695cd62\n";
+    "2.0.0\nsources 56d34fea6590f4b38a258e977605811a14afb8c0b39d22b5f2fafae21c3f8ccb\n";
 
 /// The version as a number.
 pub const NUMBER: u32 = 20000;
