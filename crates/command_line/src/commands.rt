@@ -42,13 +42,12 @@ pub enum Rule {
 #[derive(Clone, Copy)]
 pub struct Word(pub &'static str, pub Kind, pub &'static str);
 
-/// A command: its name, what it is called otherwise, its help in a line, its long help, and its arguments in order.
+/// A command: its name, what it is called otherwise, its help in a line, and its arguments in order.
 #[derive(Clone, Copy)]
 pub struct Subcommand {
     pub name: &'static str,
     pub aliases: &'static [&'static str],
     pub about: &'static str,
-    pub help: &'static str,
     pub words: &'static [Word],
 }
 
@@ -88,69 +87,186 @@ const EXPECT: Word = Word(
     "Exits with 1 if the run ends differently; can be repeated",
 );
 
-/// Commands: the name of each, what it is called otherwise, its help in a line, its long help, and its arguments in order.
-macro_rules! commands {
-    ($($name:literal $(| $alias:literal)*: $about:literal, $help:path; $($word:expr),+;)+) => {
-        [$(Subcommand {
-            name: $name,
-            aliases: &[$($alias),*],
-            about: $about,
-            help: $help,
-            words: &[$($word),+],
-        }),+]
-    };
-}
-
 /// The commands, in the order of the help.
-static COMMANDS: [Subcommand; 12] = commands! {
-    "asm" | "assemble" | "compile" | "build": "Assembles a program text into an image", texts::ASM;
-        Word("SRC", Kind::Needed, "The file of the program text"),
-        Word("OUT", Kind::Needed, "The file that the image is written to");
-    "list" | "disasm" | "disassemble" | "dump": "Writes the canonical text of a program", texts::LIST;
-        FILE,
-        Word("rows", Kind::Flag, "Writes each row with its number, and for a text its line");
-    "run" | "play" | "exec" | "execute" | "replay" | "simulate":
-        "Plays a program under a schedule and writes the trace", texts::RUN;
-        FILE, SCHEDULE, EXPECT, PLAN, PLAN_FILE;
-    "compare" | "diff" | "verify": "Compares a trace with the run that it names", texts::COMPARE;
-        FILE, TRACE,
-        Word("show", Kind::Flag, "Writes the two lines that differ, or what a line has to be");
-    "debug" | "step" | "gdb": "Plays a program by commands, forwards and backwards", texts::DEBUG;
-        FILE,
-        Word("at", Kind::Value("TRACE", Rule::Once), "Begins after the choices of the trace in this file"),
-        Word("plan", Kind::Value("PLAN", Rule::Instead(&["at"])), "Begins after the choices of this plan, such as 'ann. bob.'"),
-        Word("plan-file", Kind::Value("FILE", Rule::Instead(&["at", "plan"])),
-            "Begins after the choices of the plan in this file");
-    "show" | "page" | "html" | "view": "Writes a page that shows a run", texts::SHOW;
-        FILE, SCHEDULE, PLAN, PLAN_FILE;
-    "draw" | "picture" | "diagram" | "graph": "Draws a run as text", texts::DRAW;
-        FILE, SCHEDULE,
-        Word("width", Kind::Number("N", 60, 1000, Rule::Default("80")), "The longest line in bytes, 60 to 1000"),
-        PLAN, PLAN_FILE;
-    "live" | "stress": "Plays a program on real threads and writes the trace", texts::LIVE;
-        FILE,
-        Word("limit", Kind::Number("N", 1, 1_000_000_000, Rule::Default("1000000")), "How many steps at most, 1 to 1000000000"),
-        Word("stir", Kind::Number("SEED", 0, 4_294_967_295, Rule::Once),
-            "Makes threads pause before some of their turns, 0 to 4294967295"),
-        Word("runs", Kind::Number("N", 1, 100_000, Rule::Once), "Plays N runs and counts how they end, 1 to 100000"),
-        EXPECT;
-    "race": "Lets real threads meet at a shared phaser", texts::RACE;
-        Word("parties", Kind::Number("N", 1, 16, Rule::Needed), "How many threads, 1 to 16"),
-        Word("rounds", Kind::Number("R", 1, 1_000_000, Rule::Needed), "How many phases, 1 to 1000000");
-    "choices": "Writes the schedule of a trace", texts::CHOICES;
-        TRACE;
-    "plan": "Writes the schedule of a plan", texts::PLAN;
-        FILE,
-        Word("PLAN", Kind::Given, "The file of the plan, or `-` for standard input"),
-        Word("seeds", Kind::Value("FROM..TO", Rule::Once), "Counts how the runs of these seeds end, such as 1..1000"),
-        Word("limit", Kind::Number("N", 1, 1_000_000, Rule::With("seeds")),
-            "With --seeds: how many choices of each seed, 1 to 1000000"),
-        Word("expect", Kind::Value("STATE", Rule::OftenWith("seeds")),
-            "With --seeds: exits with 1 if a run ends differently; can be repeated"),
-        Word("names", Kind::Flag, "Writes the names of the threads instead of their numbers");
-    "explain": "Says what an error, a trace's line or an instruction means", texts::EXPLAIN;
-        Word("WORD", Kind::Several, "The words of a line on standard error, such as `refused asm 2 5`");
-};
+static COMMANDS: [Subcommand; 12] = [
+    Subcommand {
+        name: "asm",
+        aliases: &["assemble", "compile", "build"],
+        about: "Assembles a program text into an image",
+        words: &[
+            Word("SRC", Kind::Needed, "The file of the program text"),
+            Word("OUT", Kind::Needed, "The file that the image is written to"),
+        ],
+    },
+    Subcommand {
+        name: "list",
+        aliases: &["disasm", "disassemble", "dump"],
+        about: "Writes the canonical text of a program",
+        words: &[
+            FILE,
+            Word(
+                "rows",
+                Kind::Flag,
+                "Writes each row with its number, and for a text its line",
+            ),
+        ],
+    },
+    Subcommand {
+        name: "run",
+        aliases: &["play", "exec", "execute", "replay", "simulate"],
+        about: "Plays a program under a schedule and writes the trace",
+        words: &[FILE, SCHEDULE, EXPECT, PLAN, PLAN_FILE],
+    },
+    Subcommand {
+        name: "compare",
+        aliases: &["diff", "verify"],
+        about: "Compares a trace with the run that it names",
+        words: &[
+            FILE,
+            TRACE,
+            Word(
+                "show",
+                Kind::Flag,
+                "Writes the two lines that differ, or what a line has to be",
+            ),
+        ],
+    },
+    Subcommand {
+        name: "debug",
+        aliases: &["step", "gdb"],
+        about: "Plays a program by commands, forwards and backwards",
+        words: &[
+            FILE,
+            Word(
+                "at",
+                Kind::Value("TRACE", Rule::Once),
+                "Begins after the choices of the trace in this file",
+            ),
+            Word(
+                "plan",
+                Kind::Value("PLAN", Rule::Instead(&["at"])),
+                "Begins after the choices of this plan, such as 'ann. bob.'",
+            ),
+            Word(
+                "plan-file",
+                Kind::Value("FILE", Rule::Instead(&["at", "plan"])),
+                "Begins after the choices of the plan in this file",
+            ),
+        ],
+    },
+    Subcommand {
+        name: "show",
+        aliases: &["page", "html", "view"],
+        about: "Writes a page that shows a run",
+        words: &[FILE, SCHEDULE, PLAN, PLAN_FILE],
+    },
+    Subcommand {
+        name: "draw",
+        aliases: &["picture", "diagram", "graph"],
+        about: "Draws a run as text",
+        words: &[
+            FILE,
+            SCHEDULE,
+            Word(
+                "width",
+                Kind::Number("N", 60, 1000, Rule::Default("80")),
+                "The longest line in bytes, 60 to 1000",
+            ),
+            PLAN,
+            PLAN_FILE,
+        ],
+    },
+    Subcommand {
+        name: "live",
+        aliases: &["stress"],
+        about: "Plays a program on real threads and writes the trace",
+        words: &[
+            FILE,
+            Word(
+                "limit",
+                Kind::Number("N", 1, 1_000_000_000, Rule::Default("1000000")),
+                "How many steps at most, 1 to 1000000000",
+            ),
+            Word(
+                "stir",
+                Kind::Number("SEED", 0, 4_294_967_295, Rule::Once),
+                "Makes threads pause before some of their turns, 0 to 4294967295",
+            ),
+            Word(
+                "runs",
+                Kind::Number("N", 1, 100_000, Rule::Once),
+                "Plays N runs and counts how they end, 1 to 100000",
+            ),
+            EXPECT,
+        ],
+    },
+    Subcommand {
+        name: "race",
+        aliases: &[],
+        about: "Lets real threads meet at a shared phaser",
+        words: &[
+            Word(
+                "parties",
+                Kind::Number("N", 1, 16, Rule::Needed),
+                "How many threads, 1 to 16",
+            ),
+            Word(
+                "rounds",
+                Kind::Number("R", 1, 1_000_000, Rule::Needed),
+                "How many phases, 1 to 1000000",
+            ),
+        ],
+    },
+    Subcommand {
+        name: "choices",
+        aliases: &[],
+        about: "Writes the schedule of a trace",
+        words: &[TRACE],
+    },
+    Subcommand {
+        name: "plan",
+        aliases: &[],
+        about: "Writes the schedule of a plan",
+        words: &[
+            FILE,
+            Word(
+                "PLAN",
+                Kind::Given,
+                "The file of the plan, or `-` for standard input",
+            ),
+            Word(
+                "seeds",
+                Kind::Value("FROM..TO", Rule::Once),
+                "Counts how the runs of these seeds end, such as 1..1000",
+            ),
+            Word(
+                "limit",
+                Kind::Number("N", 1, 1_000_000, Rule::With("seeds")),
+                "With --seeds: how many choices of each seed, 1 to 1000000",
+            ),
+            Word(
+                "expect",
+                Kind::Value("STATE", Rule::OftenWith("seeds")),
+                "With --seeds: exits with 1 if a run ends differently; can be repeated",
+            ),
+            Word(
+                "names",
+                Kind::Flag,
+                "Writes the names of the threads instead of their numbers",
+            ),
+        ],
+    },
+    Subcommand {
+        name: "explain",
+        aliases: &[],
+        about: "Says what an error, a trace's line or an instruction means",
+        words: &[Word(
+            "WORD",
+            Kind::Several,
+            "The words of a line on standard error, such as `refused asm 2 5`",
+        )],
+    },
+];
 
 impl Word {
     /// Returns the argument or option for `clap`.
@@ -188,7 +304,7 @@ impl Subcommand {
     fn command<'a>(&self, alloc: Global) -> Result<Command<'a>, AllocError> {
         let mut command = Command::new(alloc, self.name)
             .about(self.about)
-            .long_about(self.help)
+            .long_about(texts::of(self.name))
             .after_help(texts::STATUSES)
             .aliases(self.aliases)?;
         for word in self.words {

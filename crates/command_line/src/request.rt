@@ -204,8 +204,10 @@ fn number_given(
     let Some(digits) = word_given(matches, option) else {
         return Ok(None);
     };
-    let number = number(digits, least, most).ok_or(Refusal::Wrong(NUMBER))?;
-    Ok(Some(number))
+    match number(digits, least, most) {
+        Some(number) => Ok(Some(number)),
+        None => Err(Refusal::Wrong(NUMBER)),
+    }
 }
 
 /// Returns the number of an option that is required or has a default value.
@@ -213,7 +215,10 @@ fn needed(matches: &ArgMatches<'_>, option: &str, least: u32, most: u32) -> Resu
     ensures range { IfOk result (λ n. (least ≤ n) × (n ≤ most)) }
     ensures asked { IfOk result (λ n. IsNumber (given option.now (rows_in matches.now)) (Some n)) }
 {
-    number_given(matches, option, least, most)?.ok_or(Refusal::Wrong(NUMBER))
+    match number_given(matches, option, least, most)? {
+        Some(number) => Ok(number),
+        None => Err(Refusal::Wrong(NUMBER)),
+    }
 }
 
 /// Returns the words of a text, with one blank between them.
@@ -283,10 +288,12 @@ fn given_orders<'a>(alloc: Global, matches: &ArgMatches<'a>) -> Result<Option<Or
     let Some(seeds) = seeds_in(text) else {
         return Err(Refusal::Wrong(SEEDS));
     };
+    let limit = number_given(matches, "limit", 1, 1_000_000)?;
+    let expected = expected(alloc, matches)?;
     Ok(Some(Orders {
         seeds,
-        limit: number_given(matches, "limit", 1, 1_000_000)?,
-        expected: expected(alloc, matches)?,
+        limit,
+        expected,
     }))
 }
 
@@ -295,12 +302,16 @@ fn live<'a>(alloc: Global, matches: &ArgMatches<'a>) -> Result<Request<'a>, Refu
     ensures range { IfOk result IsInRange }
     ensures asked { IfOk result (AsksBy (codes "live") (rows_in matches.now)) }
 {
+    let limit = needed(matches, "limit", 1, 1_000_000_000)?;
+    let seed = number_given(matches, "stir", 0, 4_294_967_295)?;
+    let runs = number_given(matches, "runs", 1, 100_000)?;
+    let expected = expected(alloc, matches)?;
     Ok(Request::Live {
         file: word(matches, "FILE"),
-        limit: needed(matches, "limit", 1, 1_000_000_000)?,
-        seed: number_given(matches, "stir", 0, 4_294_967_295)?,
-        runs: number_given(matches, "runs", 1, 100_000)?,
-        expected: expected(alloc, matches)?,
+        limit,
+        seed,
+        runs,
+        expected,
     })
 }
 
@@ -309,9 +320,11 @@ fn race<'a>(matches: &ArgMatches<'a>) -> Result<Request<'a>, Refusal>
     ensures range { IfOk result IsInRange }
     ensures asked { IfOk result (AsksBy (codes "race") (rows_in matches.now)) }
 {
+    let parties = needed(matches, "parties", 1, 16)?;
+    let rounds = needed(matches, "rounds", 1, 1_000_000)?;
     Ok(Request::Race {
-        parties: needed(matches, "parties", 1, 16)? as u16,
-        rounds: needed(matches, "rounds", 1, 1_000_000)?,
+        parties: parties as u16,
+        rounds,
     })
 }
 
@@ -320,10 +333,11 @@ fn draw<'a>(matches: &ArgMatches<'a>) -> Result<Request<'a>, Refusal>
     ensures range { IfOk result IsInRange }
     ensures asked { IfOk result (AsksBy (codes "draw") (rows_in matches.now)) }
 {
+    let width = needed(matches, "width", 60, 1000)?;
     Ok(Request::Draw {
         file: word(matches, "FILE"),
         steps: chosen_steps(matches),
-        width: needed(matches, "width", 60, 1000)? as u16,
+        width: width as u16,
     })
 }
 
@@ -336,10 +350,11 @@ fn run<'a>(
     ensures range { IfOk result IsInRange }
     ensures asked { IfOk result (IsRun file.entry (rows_in matches.now)) }
 {
+    let expected = expected(alloc, matches)?;
     Ok(Request::Run {
         file,
         steps: chosen_steps(matches),
-        expected: expected(alloc, matches)?,
+        expected,
     })
 }
 
@@ -408,7 +423,8 @@ fn request_of<'a>(alloc: Global, matches: &ArgMatches<'a>) -> Result<Request<'a>
     request_by(alloc, command, of_command)
 }
 
-/// Returns what the words ask for by the program's commands, or the error that is reported.
+/// Returns what the words ask for by this table of commands, and the word of `--explain`, if it is given; or the error that is
+/// reported. It is apart from `parse`, so that its contract can name the table.
 fn parsed<'a>(
     alloc: Global,
     program: &mut Command<'a>,
@@ -428,11 +444,17 @@ fn parsed<'a>(
 
 /// Returns the error of arguments of which one isn't text.
 pub fn no_text(alloc: Global, version: &str) -> Error {
-    let error = program(alloc, version).and_then(|mut program| program.error(
+    let mut program = match program(alloc, version) {
+        Ok(program) => program,
+        Err(memory) => return Error::from(memory),
+    };
+    match program.error(
         ErrorKind::ValueValidation,
         "invalid UTF-8 was detected in one or more arguments",
-    ));
-    error.unwrap_or_else(|memory| Error::from(memory))
+    ) {
+        Ok(error) => error,
+        Err(memory) => Error::from(memory),
+    }
 }
 
 /// Returns what the arguments, after the program's name, ask for, and when a failure is explained, if they say so. `--help` and
@@ -444,5 +466,6 @@ pub fn parse<'a>(
 ) -> Result<(Request<'a>, Option<When>), Error>
     ensures { IfOk result (λ both. IsInRange both.0) }
 {
-    parsed(alloc, &mut program(alloc, version)?, words)
+    let mut program = program(alloc, version)?;
+    parsed(alloc, &mut program, words)
 }

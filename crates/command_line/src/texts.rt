@@ -30,7 +30,7 @@ too; then it goes after the command's name.
 
 Example: vuthgal < examples/two-threads-meet.txt";
 
-pub const ASM: &str = "\
+const ASM: &str = "\
 Assembles the program text in SRC and writes its image to OUT.
 
 OUT is made empty first. `-` is a file of this name. SRC and OUT can't be the
@@ -38,7 +38,7 @@ same file. `asm` doesn't check whether the program can be loaded.
 
 Example: vuthgal asm examples/meeting.asm meeting.image";
 
-pub const LIST: &str = "\
+const LIST: &str = "\
 Writes the canonical text of the program in FILE, an image or a program text.
 
 With `--rows` it writes a line for each row instead: the row's number, as in
@@ -46,7 +46,7 @@ traces, then for a text the line's number and the line, for an image the row.
 
 Example: vuthgal list meeting.image";
 
-pub const RUN: &str = "\
+const RUN: &str = "\
 Plays the program in FILE under the schedule in SCHEDULE and writes the trace:
 a line for each choice, and then the state.
 
@@ -66,7 +66,7 @@ If a choice is refused, none is met.
 
 Example: vuthgal run examples/meeting.asm - <<< 't0 t1 t0*3 t1*2'";
 
-pub const COMPARE: &str = "\
+const COMPARE: &str = "\
 Compares the trace in TRACE with the run of the program in FILE under the
 choices that the trace names.
 
@@ -80,7 +80,7 @@ this line, `trace ..`, and what the line has to be, `wanted ..`.
 
 Example: vuthgal compare examples/meeting.asm examples/two-threads-meet.trace";
 
-pub const DEBUG: &str = "\
+const DEBUG: &str = "\
 Plays the program in FILE by the commands on standard input, forwards and
 backwards.
 
@@ -106,7 +106,7 @@ plan. After each reply you see which threads can continue, and at which row.
 
 Example: vuthgal debug examples/meeting.asm <<< 'g t0 t1 t0'";
 
-pub const SHOW: &str = "\
+const SHOW: &str = "\
 Writes a page that shows a run: one HTML file that any browser opens, without a
 network.
 
@@ -118,7 +118,7 @@ itself and compares the trace. There you can also make other choices.
 
 Example: vuthgal show examples/two-threads-meet.txt > meeting.html";
 
-pub const DRAW: &str = "\
+const DRAW: &str = "\
 Draws a run as text: a column for each thread, a line for each choice.
 
 FILE, SCHEDULE and plans are as in `vuthgal run --help`. A line has at most N
@@ -126,7 +126,7 @@ bytes (`--width N`), and a drawing at most 2000 choices.
 
 Example: vuthgal draw examples/two-threads-meet.txt";
 
-pub const LIVE: &str = "\
+const LIVE: &str = "\
 Plays the program in FILE on real threads, one for each thread of the program,
 and writes the trace of this run.
 
@@ -148,7 +148,7 @@ differently (`vuthgal run --help`).
 
 Example: vuthgal live examples/meeting.asm";
 
-pub const RACE: &str = "\
+const RACE: &str = "\
 Lets real threads meet at one shared phaser, round after round, and writes its
 state at the end.
 
@@ -158,7 +158,7 @@ and B and C are N.
 
 Example: vuthgal race --parties 4 --rounds 10000";
 
-pub const CHOICES: &str = "\
+const CHOICES: &str = "\
 Writes the schedule of the trace in TRACE: the choices that its lines name, up
 to its state.
 
@@ -171,7 +171,7 @@ names of its threads instead of their numbers:
 
 Example: vuthgal choices examples/two-threads-meet.trace";
 
-pub const PLAN: &str = "\
+const PLAN: &str = "\
 Writes the schedule of the plan in PLAN for the program in FILE. `run`, `show`
 and `draw` take it as SCHEDULE.
 
@@ -210,7 +210,7 @@ then is a plan and no schedule: `vuthgal run FILE --plan-file F` plays it.
 
 Example: vuthgal plan examples/meeting.asm - <<< 't0. t1. t0.'";
 
-pub const EXPLAIN: &str = "\
+const EXPLAIN: &str = "\
 Says in words what a line on standard error means: what is wrong, what helps, a
 command that causes it, and where the documents say more. Or what an instruction
 or a directive of a program is: its operands, Java's method, what it does, and a
@@ -224,3 +224,21 @@ is an instruction, `explain .thread` a directive. Without words it lists what
 you can ask.
 
 Example: vuthgal explain refused asm 2 5";
+
+/// Returns the long help of a command.
+pub fn of(command: &str) -> &'static str {
+    match command {
+        "asm" => ASM,
+        "list" => LIST,
+        "run" => RUN,
+        "compare" => COMPARE,
+        "debug" => DEBUG,
+        "show" => SHOW,
+        "draw" => DRAW,
+        "live" => LIVE,
+        "race" => RACE,
+        "choices" => CHOICES,
+        "plan" => PLAN,
+        _ => EXPLAIN,
+    }
+}

@@ -88,8 +88,9 @@ pub fn arrive(forest: &mut Forest, id: PhaserId, leave: bool) -> Arrived
     forest.arrive(id, leave)
 }
 
-/// Ends the phase of a tree after its last arrival. If `ends` is true, it terminates the tree. Each party that registered has
-/// then arrived or left, unless an unregistered party arrived in the tree (`safe`).
+/// Ends the phase of a tree after its last arrival. If `ends` is true, it terminates the tree. Before the call, everybody who
+/// registered directly with a phaser of the tree has arrived or left, unless somebody arrived who wasn't registered (`safe`).
+/// A tree can end 2,147,483,647 phases (`few`): after more, a word that lags could pass for one of the present phase.
 pub fn end_phase(forest: &mut Forest, root: PhaserId, ends: bool)
     requires there { root.0 < length forest.old }
     requires root { root_at (phasers_of forest.old) root.0 ≡ root.0 }

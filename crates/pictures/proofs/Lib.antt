@@ -1,5 +1,7 @@
+mod Appended
 mod Awaited
 pub mod Cells
+mod Counts
 pub mod Drawings
 mod Ends
 mod Escapes

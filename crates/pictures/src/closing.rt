@@ -147,7 +147,6 @@ fn push_phaser(
 }
 
 /// Returns the state of a thread's wait at a barrier, or `None` if it has none there.
-#[tactic(auto, using(crate::proofs::Ends::none_beyond))]
 fn wait_at(machine: &Machine, thread: u8, barrier: u16) -> Option<WaitState>
     requires { thread < length machine.now.scene.threads }
     ensures { result ≡ wait_at (barrier_at (scene_of machine.now.scene) barrier).waits thread }
@@ -201,7 +200,6 @@ fn push_name(
 
 /// Appends to `front` what a thread at this row waits at, if it does, and to `back` how many have arrived further up. A line is
 /// `front` and then `back`; if it is too long, `front` is cut.
-#[tactic(auto, using(crate::proofs::Awaited::awaited_at))]
 fn push_awaited(
     pen: &Pen<'_, '_>,
     front: &mut Vec<u8>,
@@ -299,7 +297,6 @@ fn waiting_line(pen: &Pen<'_, '_>, machine: &Machine, thread: u8) -> Result<Vec<
 }
 
 /// Returns the line of a thread that died of an exception, as `a died of exception -5`.
-#[tactic(auto, using(std::proofs::Common::append_assoc))]
 fn dead_line(pen: &Pen<'_, '_>, thread: u8, code: i32) -> Result<Vec<u8>, AllocError>
     ensures { IfOk result (λ line. line.items ≡ dead_line pen.now.sheet pen.now.symbols.now thread code) }
 {
@@ -335,7 +332,6 @@ fn push_closing(
 }
 
 /// Appends the lines of the threads that wait or died.
-#[tactic(auto, using(crate::proofs::Cells::each_written))]
 pub fn push_closings(
     pen: &Pen<'_, '_>,
     text: &mut Vec<u8>,

@@ -44,7 +44,6 @@ fn draw_other(
 }
 
 /// Draws the first `count` blocks, each with an empty line after it.
-#[tactic(auto, using(crate::proofs::Cells::each_written, crate::proofs::Cells::all_written))]
 fn draw_others(
     pen: &Pen<'_, '_>,
     text: &mut Vec<u8>,

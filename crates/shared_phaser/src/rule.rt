@@ -23,6 +23,7 @@ pub trait Asked {
     ghost call: { Call };
 }
 
+/// `Brand` stands for any call: a function that passes it on picks the call in its proof. If none is picked, it is a look.
 impl Asked for Brand {
     ghost use Rattle.shared_phaser.specs.declared.history.Call.TheVariants.{Look};
 

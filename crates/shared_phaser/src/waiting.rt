@@ -136,6 +136,7 @@ impl SharedPhaser {
     }
 
     /// Makes the call `register` if `parties` is 1, and otherwise `bulkRegister(parties)`. It tries until it has a reply.
+    /// `party` is the caller's token for all its calls, not one of these parties.
     pub fn register<R: Wait>(&self, rt: &R, party: &mut Party, parties: u32) -> Reply
         requires { phaser_of party.old ≡ self.now }
         ensures phaser { phaser_of party.new ≡ self.now }

@@ -86,7 +86,7 @@ impl Fault {
     }
 }
 
-/// Returns 3 for a fault that has a number, and 4 without one, which is out of memory.
+/// Returns the exit status of a fault in an input, by its number: 3, or 4 without a number. Only out of memory has none here.
 fn refusal_status(number: Option<u8>) -> u8
     ensures { result ≡ refusal_status number }
 {

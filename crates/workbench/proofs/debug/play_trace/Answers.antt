@@ -1,5 +1,4 @@
 use Rattle.std.proofs.Common.{◌≡◌, ◌+◌, ◌++◌, ◌∷◌, [], Ok, Err, ap, arith, append-nil, inr, refl, subst, length-append}
-use Rattle.trace_compare.specs.NamedLines.{none_read}
 use Rattle.trace_compare.specs.declared.naming.NextName.TheVariants as next
 use Rattle.trace_compare.proofs.NamedLines.{or_else, taken-lines, taken-more, taken-named, taken-on}
 use Rattle.debugger.specs.{declared.stop.Stop.Stop, Go.Stops}
@@ -12,10 +11,8 @@ returns-in-Ok-State-clause-stopped g c = λ stop same.
     let stopped : c.loop-before.stop ≡ stop = cc in (
       choices,
       (
-        taken-named (c.loop-before.before + 1) choices next.State c.loop-before.lines c.next_name.new.lines
-            (g.T.Source.left c.args.trace.now) (g.T.Source.left c.loop-before.trace) (g.T.Source.left c.next_name.new.trace)
-            (Ok choices) taken
-            (c.next_name.ensures.last next.State is (λ choice e. cc) (c.loop-before.before + 1)) (ap Ok (append-nil choices)),
+        taken-named next.State (Ok choices) taken (c.next_name.ensures.last next.State is (λ choice e. cc) (c.loop-before.before + 1))
+            (ap Ok (append-nil choices)),
         subst (λ (s : Stop). Stops c.args.debugger.now choices s c.loop-before.debugger) stopped stops,
       ),
     )
@@ -25,10 +22,8 @@ returns-in-Ok-NotATrace-clause-none g c = λ line same.
     let (choices, (taken, stops, count)) = c.loop-before.invariant in
     let is : c.next_name.result ≡ Ok next.NotATrace = cc in
     let here : c.loop-before.before + 1 ≡ line = cc in
-    taken-named (c.loop-before.before + 1) choices next.NotATrace c.loop-before.lines c.next_name.new.lines
-    (g.T.Source.left c.args.trace.now) (g.T.Source.left c.loop-before.trace) (g.T.Source.left c.next_name.new.trace)
-    (Err line) taken
-    (c.next_name.ensures.last next.NotATrace is (λ choice e. cc) (c.loop-before.before + 1)) (ap Err here)
+    taken-named next.NotATrace (Err line) taken (c.next_name.ensures.last next.NotATrace is (λ choice e. cc) (c.loop-before.before + 1))
+    (ap Err here)
 
 pub returns-in-Ok-CutOff-clause-none : goal.returns-in-Ok-CutOff-clause-none
 returns-in-Ok-CutOff-clause-none g c = λ line same.
@@ -37,9 +32,7 @@ returns-in-Ok-CutOff-clause-none g c = λ line same.
     let is : c.next_name.result ≡ Ok (next.CutOff last) = cc in
     let here : c.loop-before.before + 2 ≡ line = cc in
     let number : c.loop-before.before + 1 + 1 ≡ line = omega (arith, here) in
-    taken-named (c.loop-before.before + 1) choices (next.CutOff last) c.loop-before.lines c.next_name.new.lines
-    (g.T.Source.left c.args.trace.now) (g.T.Source.left c.loop-before.trace) (g.T.Source.left c.next_name.new.trace)
-    (Err line) taken
+    taken-named (next.CutOff last) (Err line) taken
     (c.next_name.ensures.last (next.CutOff last) is (λ choice e. cc) (c.loop-before.before + 1)) (ap Err number)
 
 pub returns-in-Err-clause-fault : goal.returns-in-Err-clause-fault
@@ -47,10 +40,7 @@ returns-in-Err-clause-fault g c =
     let (choices, (taken, stops, count)) = c.loop-before.invariant in
     inr (
       refl,
-      or_else c.in-Err.ensures.failed (λ p.
-          taken-on (c.loop-before.before + 1) choices c.loop-before.lines c.next_name.new.lines
-          (g.T.Source.left c.args.trace.now) (g.T.Source.left c.loop-before.trace) (g.T.Source.left c.next_name.new.trace)
-          taken p.1 p.0),
+      or_else c.in-Err.ensures.failed (λ p. taken-on c.next_name.new.lines (g.T.Source.left c.next_name.new.trace) taken p.1 p.0),
     )
 
 pub loop-before-preserved : goal.loop-before-preserved
@@ -61,9 +51,7 @@ loop-before-preserved g c =
     let is : c.next_name.result ≡ Ok (next.Made choice) = cc in (
       choices ++ choice ∷ [],
       (
-        taken-more 1 n (n + 1) choices (choice ∷ []) none_read c.loop-before.lines c.next_name.new.lines
-            (g.T.Source.left c.args.trace.now) (g.T.Source.left c.loop-before.trace) (g.T.Source.left c.next_name.new.trace)
-            taken (c.next_name.ensures.made choice is n),
+        taken-more taken (c.next_name.ensures.made choice is n),
         c.go_on-stop.ensures c.args.debugger.now choices stops,
         omega (arith, count, length-append choices (choice ∷ [])),
       ),
@@ -74,7 +62,5 @@ returns-clause-fault g c =
     let (choices, (taken, stops, count)) = c.loop-before.invariant in
     inr (
       refl,
-      inr (taken-lines (c.loop-before.before + 1) choices c.loop-before.lines
-          (g.T.Source.left c.args.trace.now) (g.T.Source.left c.loop-before.trace) taken
-          (omega (arith, c.loop-before-test.false))),
+      inr (taken-lines taken (omega (arith, c.loop-before-test.false))),
     )
