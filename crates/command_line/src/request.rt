@@ -204,10 +204,8 @@ fn number_given(
     let Some(digits) = word_given(matches, option) else {
         return Ok(None);
     };
-    match number(digits, least, most) {
-        Some(number) => Ok(Some(number)),
-        None => Err(Refusal::Wrong(NUMBER)),
-    }
+    let number = number(digits, least, most).ok_or(Refusal::Wrong(NUMBER))?;
+    Ok(Some(number))
 }
 
 /// Returns the number of an option that is required or has a default value.
@@ -215,10 +213,7 @@ fn needed(matches: &ArgMatches<'_>, option: &str, least: u32, most: u32) -> Resu
     ensures range { IfOk result (λ n. (least ≤ n) × (n ≤ most)) }
     ensures asked { IfOk result (λ n. IsNumber (given option.now (rows_in matches.now)) (Some n)) }
 {
-    match number_given(matches, option, least, most)? {
-        Some(number) => Ok(number),
-        None => Err(Refusal::Wrong(NUMBER)),
-    }
+    number_given(matches, option, least, most)?.ok_or(Refusal::Wrong(NUMBER))
 }
 
 /// Returns the words of a text, with one blank between them.
@@ -288,12 +283,10 @@ fn given_orders<'a>(alloc: Global, matches: &ArgMatches<'a>) -> Result<Option<Or
     let Some(seeds) = seeds_in(text) else {
         return Err(Refusal::Wrong(SEEDS));
     };
-    let limit = number_given(matches, "limit", 1, 1_000_000)?;
-    let expected = expected(alloc, matches)?;
     Ok(Some(Orders {
         seeds,
-        limit,
-        expected,
+        limit: number_given(matches, "limit", 1, 1_000_000)?,
+        expected: expected(alloc, matches)?,
     }))
 }
 
@@ -302,16 +295,12 @@ fn live<'a>(alloc: Global, matches: &ArgMatches<'a>) -> Result<Request<'a>, Refu
     ensures range { IfOk result IsInRange }
     ensures asked { IfOk result (AsksBy (codes "live") (rows_in matches.now)) }
 {
-    let limit = needed(matches, "limit", 1, 1_000_000_000)?;
-    let seed = number_given(matches, "stir", 0, 4_294_967_295)?;
-    let runs = number_given(matches, "runs", 1, 100_000)?;
-    let expected = expected(alloc, matches)?;
     Ok(Request::Live {
         file: word(matches, "FILE"),
-        limit,
-        seed,
-        runs,
-        expected,
+        limit: needed(matches, "limit", 1, 1_000_000_000)?,
+        seed: number_given(matches, "stir", 0, 4_294_967_295)?,
+        runs: number_given(matches, "runs", 1, 100_000)?,
+        expected: expected(alloc, matches)?,
     })
 }
 
@@ -320,11 +309,9 @@ fn race<'a>(matches: &ArgMatches<'a>) -> Result<Request<'a>, Refusal>
     ensures range { IfOk result IsInRange }
     ensures asked { IfOk result (AsksBy (codes "race") (rows_in matches.now)) }
 {
-    let parties = needed(matches, "parties", 1, 16)?;
-    let rounds = needed(matches, "rounds", 1, 1_000_000)?;
     Ok(Request::Race {
-        parties: parties as u16,
-        rounds,
+        parties: needed(matches, "parties", 1, 16)? as u16,
+        rounds: needed(matches, "rounds", 1, 1_000_000)?,
     })
 }
 
@@ -333,11 +320,10 @@ fn draw<'a>(matches: &ArgMatches<'a>) -> Result<Request<'a>, Refusal>
     ensures range { IfOk result IsInRange }
     ensures asked { IfOk result (AsksBy (codes "draw") (rows_in matches.now)) }
 {
-    let width = needed(matches, "width", 60, 1000)?;
     Ok(Request::Draw {
         file: word(matches, "FILE"),
         steps: chosen_steps(matches),
-        width: width as u16,
+        width: needed(matches, "width", 60, 1000)? as u16,
     })
 }
 
@@ -350,11 +336,10 @@ fn run<'a>(
     ensures range { IfOk result IsInRange }
     ensures asked { IfOk result (IsRun file.entry (rows_in matches.now)) }
 {
-    let expected = expected(alloc, matches)?;
     Ok(Request::Run {
         file,
         steps: chosen_steps(matches),
-        expected,
+        expected: expected(alloc, matches)?,
     })
 }
 

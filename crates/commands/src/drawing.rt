@@ -1,9 +1,9 @@
 //! A picture as text.
-ghost use Rattle.std.specs.Prelude.{◌≡◌, ◌≢◌, ◌≤◌, Err, IfErr, IfOk, length};
-ghost use Rattle.commands.specs.{Drawing.IsDrawingIn, Picture.HaveNoPicture};
+ghost use Rattle.std.specs.Prelude.{◌≡◌, Err, IfErr, IfOk};
+ghost use Rattle.commands.specs.{Drawing.IsDrawingIn};
 ghost use Rattle.workbench.specs.declared.fault.PictureKind.TheVariants as picture;
-ghost use Rattle.workbench.specs.{declared.fault.Fault.Fault, Fault.status_of, Input.most_bytes};
-ghost use Rattle.pictures.specs.{Missing.IsMissingIn, Missing.missing_in, Picture.picture as text_of};
+ghost use Rattle.workbench.specs.{declared.fault.Fault.Fault};
+ghost use Rattle.pictures.specs.{Missing.missing_in, Picture.picture as text_of};
 ghost use Rattle.thread_machine.specs.World.{world_of};
 
 use crate::picture::{Picture, fault_of, start_fault};
@@ -21,30 +21,6 @@ use workbench::fault::{Fault, PictureKind};
 #[derive(Clone, Copy)]
 pub struct Drawing {
     pub width: u16,
-}
-
-/// Returns the drawing of a program's run under a schedule, or why there is none.
-fn drawing_of(
-    alloc: Global,
-    width: u16,
-    program: Program<'_>,
-    schedule: &[u8],
-) -> Result<Shown, Fault>
-    requires { length schedule.now ≤ most_bytes }
-    ensures drawing { IfOk result (λ shown. IsDrawingIn width program.entry.image program.entry.names schedule.now shown.bytes.items) }
-    ensures missing { IfOk result (λ shown. IsMissingIn program.entry.image schedule.now shown.missing) }
-    ensures refused { IfErr result (λ fault. status_of fault ≡ 3 → HaveNoPicture picture.Drawing fault program.entry.image schedule.now) }
-    ensures other { (result ≢ Err Fault.Read) × (result ≢ Err Fault.Write) × (result ≢ Err Fault.Spawn) }
-{
-    let Program { image, names, .. } = program;
-    let mut machine = match first_machine(alloc, image) {
-        Ok(machine) => machine,
-        Err(fault) => return Err(start_fault(fault)),
-    };
-    match choices_in(alloc, schedule) {
-        Ok(choices) => drawn(alloc, width, &mut machine, &names, choices.as_slice()),
-        Err(fault) => Err(fault_of(fault, PictureKind::Drawing)),
-    }
 }
 
 /// Returns the drawing of these choices from a machine's present state on.
@@ -83,6 +59,14 @@ impl Picture for Drawing {
 
     /// Returns the drawing of a program's run under a schedule, or why there is none.
     fn of(&self, alloc: Global, program: Program<'_>, schedule: &[u8]) -> Result<Shown, Fault> {
-        drawing_of(alloc, self.width, program, schedule)
+        let Program { image, names, .. } = program;
+        let mut machine = match first_machine(alloc, image) {
+            Ok(machine) => machine,
+            Err(fault) => return Err(start_fault(fault)),
+        };
+        match choices_in(alloc, schedule) {
+            Ok(choices) => drawn(alloc, self.width, &mut machine, &names, choices.as_slice()),
+            Err(fault) => Err(fault_of(fault, PictureKind::Drawing)),
+        }
     }
 }

@@ -1,9 +1,8 @@
 //! A picture as a page.
-ghost use Rattle.std.specs.Prelude.{◌≡◌, ◌≢◌, ◌≤◌, Err, IfErr, IfOk, length};
-ghost use Rattle.commands.specs.{Page.IsPageIn, Page.source_of, Picture.HaveNoPicture};
-ghost use Rattle.pictures.specs.{Missing.IsMissingIn, Page.parts_of};
+ghost use Rattle.std.specs.Prelude.{◌≡◌, Err};
+ghost use Rattle.commands.specs.{Page.IsPageIn, Page.source_of};
+ghost use Rattle.pictures.specs.{Page.parts_of};
 ghost use Rattle.workbench.specs.declared.fault.PictureKind.TheVariants as picture;
-ghost use Rattle.workbench.specs.{Fault.status_of, Input.most_bytes};
 
 use crate::picture::{Picture, fault_of};
 use pictures::frame::Frame;
@@ -27,31 +26,6 @@ fn source_of(program: &[u8]) -> &[u8]
     if is_image_file(program) { &[] } else { program }
 }
 
-/// Returns the page of a program's run under a schedule, or why there is none.
-fn page_of(
-    alloc: Global,
-    frame: Frame<'_>,
-    program: Program<'_>,
-    schedule: &[u8],
-) -> Result<Shown, Fault>
-    requires { length schedule.now ≤ most_bytes }
-    ensures page { IfOk result (λ shown. IsPageIn (parts_of frame.entry) program.entry.image program.entry.bytes.now schedule.now shown.bytes.items) }
-    ensures missing { IfOk result (λ shown. IsMissingIn program.entry.image schedule.now shown.missing) }
-    ensures refused { IfErr result (λ fault. status_of fault ≡ 3 → HaveNoPicture picture.Page fault program.entry.image schedule.now) }
-    ensures other { (result ≢ Err Fault.Read) × (result ≢ Err Fault.Write) × (result ≢ Err Fault.Spawn) }
-{
-    match page(
-        alloc,
-        frame,
-        program.image,
-        source_of(program.bytes),
-        schedule,
-    ) {
-        Ok(shown) => Ok(shown),
-        Err(fault) => Err(fault_of(fault, PictureKind::Page)),
-    }
-}
-
 impl<'a> Picture for Page<'a> {
     ghost use Rattle.workbench.specs.declared.fault.PictureKind.TheVariants as picture;
     ghost use Rattle.commands.specs.Page.{IsPageIn};
@@ -68,6 +42,15 @@ impl<'a> Picture for Page<'a> {
 
     /// Returns the page of a program's run under a schedule, or why there is none.
     fn of(&self, alloc: Global, program: Program<'_>, schedule: &[u8]) -> Result<Shown, Fault> {
-        page_of(alloc, self.frame, program, schedule)
+        match page(
+            alloc,
+            self.frame,
+            program.image,
+            source_of(program.bytes),
+            schedule,
+        ) {
+            Ok(shown) => Ok(shown),
+            Err(fault) => Err(fault_of(fault, PictureKind::Page)),
+        }
     }
 }

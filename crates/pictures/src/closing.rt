@@ -297,6 +297,7 @@ fn waiting_line(pen: &Pen<'_, '_>, machine: &Machine, thread: u8) -> Result<Vec<
 }
 
 /// Returns the line of a thread that died of an exception, as `a died of exception -5`.
+#[tactic(auto, using(std::proofs::Common::append_assoc))]
 fn dead_line(pen: &Pen<'_, '_>, thread: u8, code: i32) -> Result<Vec<u8>, AllocError>
     ensures { IfOk result (λ line. line.items ≡ dead_line pen.now.sheet pen.now.symbols.now thread code) }
 {

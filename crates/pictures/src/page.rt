@@ -126,6 +126,7 @@ fn add_tail(page: &mut Vec<u8>, tail: &[&[u8]]) -> Result<(), AllocError>
 }
 
 /// Returns a page: the parts of `frame`, and between them these four texts.
+#[tactic(auto, using(std::proofs::Common::append_assoc))]
 fn page_in(
     alloc: Global,
     frame: Frame,

@@ -1,39 +1,18 @@
 -- A byte behind others: its line, and its place there.
-use Rattle.std.proofs.Common.{◌≡◌, ◌∙◌, inl, inr, ◌+◌, ℕ, suc, List, [], ◌∷◌, ◌++◌, ◌<◌, length, take, get_or, refl, ap, sym, subst, arith, append_assoc, append-nil, length-append, if◌then◌else◌}
-use Rattle.std.proofs.{Math.Seq.take-suc, lemmas.List.Recursion.is_count_by}
+use Rattle.std.proofs.Common.{◌≡◌, ◌∙◌, inl, inr, ◌+◌, ℕ, List, [], ◌∷◌, ◌++◌, ◌<◌, length, take, get_or, refl, ap, sym, subst, arith, append_assoc, append-nil, length-append, if◌then◌else◌}
+use Rattle.std.proofs.lemmas.List.{take_more, Sums.sum_by-append}
 use Rattle.std.specs.List.{count_by}
 use Rattle.line_reader.specs.Words.{is_line_end}
-use Rattle.vuthgal_c.specs.Places.{AreWholeLines, IsBehind}
-
-ends : List ℕ → ℕ
-ends [] = 0
-ends (x ∷ xs) = if is_line_end x then 1 + ends xs else ends xs
-
-counted : (xs : List ℕ) → ends xs ≡ count_by is_line_end xs
-unfolding ends
-counted xs = is_count_by ends is_line_end refl (λ x rest. refl) xs
-
-ends_more : (xs ys : List ℕ) → ends (xs ++ ys) ≡ ends xs + ends ys
-unfolding ends
-ends_more [] ys = omega (arith)
-ends_more (x ∷ xs) ys =
-    let rest = ends_more xs ys in grind (arith, rest)
+use Rattle.vuthgal_c.specs.Places.{IsBehind}
 
 count_more : (xs ys : List ℕ) → count_by is_line_end (xs ++ ys) ≡ count_by is_line_end xs + count_by is_line_end ys
-count_more xs ys =
-    let all = counted (xs ++ ys) in
-    let sum = ends_more xs ys in
-    let one = counted xs in
-    let other = counted ys in omega (arith, all, sum, one, other)
+count_more xs ys = sum_by-append (λ x. if is_line_end x then 1 else 0) xs ys
 
 pub none_behind : IsBehind [] 1 1
 none_behind = record { lines = []; own = []; all = refl; whole = inl refl; ended = refl; none = refl; begun = refl }
 
 no_end : (byte : ℕ) → (byte ≡ 10 → ⊥) → count_by is_line_end (byte ∷ []) ≡ 0
-unfolding ends
-no_end byte other =
-    let none : ends (byte ∷ []) ≡ 0 = grind (arith, other) in
-    sym (counted (byte ∷ [])) ∙ none
+no_end byte other = grind (arith, other)
 
 -- in the same line
 behind_byte : (front : List ℕ) (byte number column : ℕ) → (byte ≡ 10 → ⊥) → IsBehind front number column
@@ -70,20 +49,15 @@ behind_end front byte number column is before = record {
   begun = refl;
 }
 
-more : (file : List ℕ) (i : ℕ) → i < length file → take (i + 1) file ≡ take i file ++ get_or file i 0 ∷ []
-more file i there =
-    let next : suc i ≡ i + 1 = omega (arith) in
-    subst (λ (k : ℕ). take k file ≡ take i file ++ get_or file i 0 ∷ []) next (take-suc file i 0 there)
-
 -- one byte more of a file
 pub next_byte : (file : List ℕ) (i number column : ℕ) → i < length file → (get_or file i 0 ≡ 10 → ⊥) → IsBehind (take i file) number column
     → IsBehind (take (i + 1) file) number (column + 1)
 next_byte file i number column there other before =
-    subst (λ (f : List ℕ). IsBehind f number (column + 1)) (sym (more file i there))
+    subst (λ (f : List ℕ). IsBehind f number (column + 1)) (sym (take_more file i 0 there))
     (behind_byte (take i file) (get_or file i 0) number column other before)
 
 pub next_line : (file : List ℕ) (i number column : ℕ) → i < length file → get_or file i 0 ≡ 10 → IsBehind (take i file) number column
     → IsBehind (take (i + 1) file) (number + 1) 1
 next_line file i number column there is before =
-    subst (λ (f : List ℕ). IsBehind f (number + 1) 1) (sym (more file i there))
+    subst (λ (f : List ℕ). IsBehind f (number + 1) 1) (sym (take_more file i 0 there))
     (behind_end (take i file) (get_or file i 0) number column is before)

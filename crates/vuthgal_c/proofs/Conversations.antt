@@ -28,15 +28,11 @@ Leaves image choices kept call after =
     × (StandsBehind kept choices call now × StandIn image now next))))
 
 never_zero : (fault : StepFault) → 0 ≡ refused_status fault → ⊥
-never_zero step.NoSuchThread is = omega (arith, is)
-never_zero step.StepLimit is = omega (arith, is)
-never_zero step.Memory is = omega (arith, is)
+never_zero fault is = grind arith
 
 never_there : (why : NotThere) → 0 ≡ not_there_status why → ⊥
-never_there nowhere.TooLong is = omega (arith, is)
-never_there nowhere.NoSchedule is = omega (arith, is)
-never_there nowhere.Fewer is = omega (arith, is)
 never_there (nowhere.Refused fault) is = never_zero fault is
+never_there _ is = omega (arith, is)
 
 -- the choices of a schedule that was read
 gone : (image : Image) (choices : List Choice) (kept next : Kept) (played : List ℕ) (number : ℕ) → kept.image ≡ image
@@ -53,7 +49,6 @@ one_call (Command command zero reply) image choices kept after (world, (begins, 
     let on = goes_on_with (line_order command) world choices kept.debugger next.debugger next.reply history replies in
     inr (next, (is, (on.0, (on.1.0, (world, (begins, image_is ∙ same, on.1.1))))))
 one_call (Command command zero reply) image choices kept after stands (inr (memory, empty, rest)) = absurd (omega (arith, memory))
-one_call (Command command (suc n) reply) image choices kept after stands (inl (done, rest)) = absurd (omega (arith, done))
 one_call (Command command (suc n) reply) image choices kept after stands (inr (memory, empty, inl same)) =
     inr (kept, (same, (choices, (refl, stands))))
 one_call (Command command (suc n) reply) image choices kept after stands (inr (memory, empty, inr (closed, long))) = inl closed
@@ -62,7 +57,6 @@ one_call (Choose choice zero b a) image choices kept after (world, (begins, same
     inr (next, (is, (choices ++ choice ∷ [], (refl, (world, (begins, image_is ∙ same, on))))))
 one_call (Choose choice zero b a) image choices kept after stands (inr (same, event, (fault, (status, refuses)))) =
     absurd (never_zero fault status)
-one_call (Choose choice (suc n) b a) image choices kept after stands (inl (done, rest)) = absurd (omega (arith, done))
 one_call (Choose choice (suc n) b a) image choices kept after stands (inr (same, event, rest)) =
     inr (kept, (same, (choices, (refl, stands))))
 one_call (Return status) image choices kept after (world, (begins, same, history)) (is, rest) =
@@ -71,16 +65,15 @@ one_call (Return status) image choices kept after (world, (begins, same, history
 one_call (GoTo played number zero) image choices kept after (world, (begins, same, history)) (inl (done, (next, (is, went)))) =
     subst (Leaves image choices kept (GoTo played number 0)) (sym is) (gone image choices kept next played number same went)
 one_call (GoTo played number zero) image choices kept after stands (inr (same, (why, (status, rest)))) = absurd (never_there why status)
-one_call (GoTo played number (suc n)) image choices kept after stands (inl (done, rest)) = absurd (omega (arith, done))
 one_call (GoTo played number (suc n)) image choices kept after stands (inr (same, rest)) =
     inr (kept, (same, (choices, (refl, stands))))
+one_call _ image choices kept after stands (inl (done, rest)) = absurd (omega (arith, done))
 
 -- where there is no session, none is open after more calls
 closed_by : (call : Call) (after : Option Kept) → IsCall None call after → after ≡ None
 closed_by (Command command status reply) after (is, none, same) = same
 closed_by (Choose choice status b a) after (is, same, event) = same
-closed_by (Return status) after (is, same) = same
-closed_by (GoTo played number status) after (is, same) = same
+closed_by _ after (is, same) = same
 
 stays_closed : (calls : List Call) (before : Option Kept) (last : Kept) → before ≡ None → AreCalls before calls (Some last) → ⊥
 stays_closed [] before last none is = absurd (cc (is, none))

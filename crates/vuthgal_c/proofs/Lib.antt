@@ -3,7 +3,6 @@ mod Words
 mod Faults
 pub mod Values
 mod Conversations
-mod Filled
 mod Behind
 mod Results
 mod Events

@@ -132,10 +132,7 @@ fn not_loaded(alloc: Global, file: &[u8], text: &[u8], fault: Fault) -> Mistake
 fn is_text(kind: Kind) -> bool
     ensures { result ≡ is_text kind }
 {
-    match kind {
-        Kind::Program | Kind::Plan | Kind::Schedule => false,
-        Kind::Text => true,
-    }
+    matches!(kind, Kind::Text)
 }
 
 /// Returns the program in a file, without the schedule that may follow it, or the mistake if there is none.

@@ -2,11 +2,11 @@ use Rattle.std.proofs.Common.{refl}
 use Rattle.workbench.specs.declared.fault.PictureKind.TheVariants as picture
 use Rattle.commands.proofs.{NoPicture.no_picture, Pages.page_in}
 use Rattle.pictures.specs.Page.{parts_of}
-use Rattle.commands.proofs.page.page_of.Goals as goal
+use Rattle.commands.proofs.page.PagePicture.of.Goals as goal
 
-pub returns-in-Ok-clause-page : goal.returns-in-Ok-clause-page
-returns-in-Ok-clause-page c =
-    page_in (parts_of c.args.frame) c.args.program.bytes.now c.args.schedule.now c.source_of.result.now c.in-Ok.shown.bytes.items c.args.program.image
+pub returns-in-Ok-clause-picture : goal.returns-in-Ok-clause-picture
+returns-in-Ok-clause-picture c =
+    page_in (parts_of c.args.self.now.frame) c.args.program.bytes.now c.args.schedule.now c.source_of.result.now c.in-Ok.shown.bytes.items c.args.program.image
     c.source_of.ensures c.in-Ok.ensures.page
 
 pub returns-clause-refused : goal.returns-clause-refused
