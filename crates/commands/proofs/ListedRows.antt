@@ -18,11 +18,13 @@ use Rattle.workbench.specs.ProgramFile.{IsNamedProgram, is_image_file}
 -- a last line that is empty is as good as none
 same_line : (pieces : List (List ℕ)) (i : ℕ) → slice_index_or (without_empty_last pieces) i [] ≡ slice_index_or pieces i []
 same_line [] i = refl
+same_line ([] ∷ []) zero = refl
 same_line ([] ∷ []) (suc i) = refl
 same_line ((x ∷ xs) ∷ []) i = refl
+same_line ([] ∷ next ∷ pieces) zero = refl
 same_line ([] ∷ next ∷ pieces) (suc i) = same_line (next ∷ pieces) i
+same_line ((x ∷ xs) ∷ next ∷ pieces) zero = refl
 same_line ((x ∷ xs) ∷ next ∷ pieces) (suc i) = same_line (next ∷ pieces) i
-same_line _ zero = refl
 
 pub rows_by_pieces : (text : List ℕ) (pieces : List (List ℕ)) (numbers none listing : List ℕ)
     → pieces ≡ slice_split is_line_end text → none ≡ []
