@@ -2,18 +2,17 @@
 use Rattle.std.proofs.Common.{◌≡◌, ◌∙◌, ◌⊎◌, inl, inr, ℕ, zero, suc, List, [], ◌∷◌, ◌++◌, Option, Some, None, refl, sym, subst, ap, arith, map, take}
 use Rattle.std.specs.Option.{unwrap_or}
 use Rattle.debugger.specs.{Command.Back, Command.line_order, Reply.back_text}
-use Rattle.debugger.specs.Session.{IsHistory, went_back, worlds_before}
+use Rattle.debugger.specs.Session.{IsHistory, went_back}
 use Rattle.debugger.proofs.{Histories.history_on, Standings.goes_on_with}
 use Rattle.row_code.specs.declared.image.Image.{Image}
 use Rattle.schedule_reader.specs.Schedule.{Schedule, choices_of, finished_schedule}
 use Rattle.trace_text.specs.Start.{Begins}
 use Rattle.headline.proofs.{Scenes.stored_alike, Scenes.world_left, Sessions.nothing_done, Showing.file_image}
-use Rattle.thread_machine.specs.{World.World, World.StoredWorld, World.world_of, declared.choice.Choice.Choice}
+use Rattle.thread_machine.specs.{World.World, World.world_of, declared.choice.Choice.Choice}
 use Rattle.thread_machine.specs.declared.fault.StepFault.{StepFault}
-use Rattle.thread_machine.specs.declared.fault.StepFault.TheVariants as step
 use Rattle.vuthgal_c.specs.Conversation.{Call, Command, Choose, Return, GoTo, IsCall, AreCalls, StandsBehind, AreLeftBy, CallersSeeTheRows, CopiesGoOn}
 use Rattle.vuthgal_c.specs.declared.going.NotThere.{NotThere}
-use Rattle.vuthgal_c.specs.Sessions.{Answers, HasGone, Kept, not_there_status, refused_status}
+use Rattle.vuthgal_c.specs.Sessions.{HasGone, Kept, not_there_status, refused_status}
 use Rattle.vuthgal_c.specs.declared.going.NotThere.TheVariants as nowhere
 
 -- these choices stand in a session of this program
@@ -67,13 +66,16 @@ one_call (GoTo played number zero) image choices kept after (world, (begins, sam
 one_call (GoTo played number zero) image choices kept after stands (inr (same, (why, (status, rest)))) = absurd (never_there why status)
 one_call (GoTo played number (suc n)) image choices kept after stands (inr (same, rest)) =
     inr (kept, (same, (choices, (refl, stands))))
-one_call _ image choices kept after stands (inl (done, rest)) = absurd (omega (arith, done))
+one_call (Command command (suc n) reply) image choices kept after stands (inl (done, rest)) = absurd (omega (arith, done))
+one_call (Choose choice (suc n) b a) image choices kept after stands (inl (done, rest)) = absurd (omega (arith, done))
+one_call (GoTo played number (suc n)) image choices kept after stands (inl (done, rest)) = absurd (omega (arith, done))
 
 -- where there is no session, none is open after more calls
 closed_by : (call : Call) (after : Option Kept) → IsCall None call after → after ≡ None
 closed_by (Command command status reply) after (is, none, same) = same
 closed_by (Choose choice status b a) after (is, same, event) = same
-closed_by _ after (is, same) = same
+closed_by (Return status) after (is, same) = same
+closed_by (GoTo played number status) after (is, same) = same
 
 stays_closed : (calls : List Call) (before : Option Kept) (last : Kept) → before ≡ None → AreCalls before calls (Some last) → ⊥
 stays_closed [] before last none is = absurd (cc (is, none))

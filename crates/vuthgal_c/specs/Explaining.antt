@@ -1,5 +1,5 @@
 -- What `vuthgal_explain` promises.
-use Rattle.std.specs.Prelude.{◌≡◌, ◌⊎◌, ◌<◌, ℕ, Bool, true, false, IsTrue, IfErr, List, [], ◌++◌, length, Option, Some, Result, Ok, Err}
+use Rattle.std.specs.Prelude.{◌≡◌, ◌⊎◌, ◌<◌, ℕ, Bool, true, false, IsTrue, IfErr, List, [], length, Option, Some, Result, Ok, Err}
 use Rattle.std.specs.{Borrow.Bor, Str.IsUtf8, Io.KnownBytes.Appends}
 use Rattle.refusals.specs.{Explained.HasExplained, Question.AsksFor, Word.AreNoWord, declared.entry.Entry.Entry}
 use Rattle.refusals.specs.declared.question.Question.{Question}

@@ -1,17 +1,17 @@
 -- What a caller sees of a session's state and of a choice, as numbers. include/vuthgal.h names the numbers.
-use Rattle.std.specs.Prelude.{◌≡◌, ℕ, ℤ, pos, ◌+◌, ◌<◌, ◌≤◌, Bool, true, false, if◌then◌else◌, List, length, Option, Some, None, slice_get, slice_index_or}
+use Rattle.std.specs.Prelude.{◌≡◌, ℕ, ℤ, pos, ◌<◌, ◌≤◌, Bool, true, false, List, length, Some, slice_get, slice_index_or}
 use Rattle.std.specs.Option.{unwrap_or}
 use Rattle.cyclic_barrier.specs.Barrier.{BarrierState, number_waiting}
-use Rattle.instruction_table.specs.{Registers.value_in, declared.row.Row.Row, declared.row.Row.TheVariants.Halt}
+use Rattle.instruction_table.specs.{Registers.value_in, declared.row.Row.Row}
 use Rattle.instruction_table.specs.declared.register.Reg.TheVariants.{R0, R1, R2, R3, R4, R5, R6, R7}
 use Rattle.loader.specs.{Named.named_by, Program.Program, Program.row_at, declared.named.Named.Named}
 use Rattle.loader.specs.declared.named.Named.TheVariants as named
-use Rattle.machine_scene.specs.Scene.{scene_of, thread_at, barrier_at, cell_at}
+use Rattle.machine_scene.specs.Scene.{thread_at, barrier_at, cell_at}
 use Rattle.packed_phaser.specs.Flat.{view_of, unarrived_of}
 use Rattle.thread_machine.specs.{Standing.standing_of, World.World, declared.standing.Standing.Standing}
 use Rattle.thread_machine.specs.declared.standing.Standing.TheVariants as standing
 use Rattle.thread_state.specs.{Thread.ThreadState, declared.event.Event.Event, declared.event.Mark.Mark, Frame.entry_of}
-use Rattle.thread_state.specs.declared.{event.What.What, frame.Entry.Entry, frame.Frame.Frame, status.Status.Status}
+use Rattle.thread_state.specs.declared.{event.What.What, frame.Entry.Entry, status.Status.Status}
 use Rattle.thread_state.specs.declared.event.Mark.TheVariants as mark
 use Rattle.thread_state.specs.declared.event.What.TheVariants as what
 use Rattle.thread_state.specs.declared.frame.Entry.TheVariants as entry

@@ -1,5 +1,5 @@
 -- Where a program, a plan or a schedule is refused.
-use Rattle.std.specs.Prelude.{◌≡◌, ◌≢◌, ◌⊎◌, ◌+◌, ◌-◌, ◌==◌, ℕ, Bool, true, false, if◌then◌else◌, List, [], length, take, Option, Some, None, Result, Ok, Err, IfErr, OnOk}
+use Rattle.std.specs.Prelude.{◌≡◌, ◌≢◌, ◌⊎◌, ◌+◌, ◌-◌, ◌==◌, ℕ, Bool, true, false, if◌then◌else◌, List, [], length, take, Some, None, Result, Ok, Err, IfErr, OnOk}
 use Rattle.assembler.specs.{Meaning.StandsFor, Symbols.symbols_in}
 use Rattle.commands.specs.{Pictures.program_of, Planning.HasThreads, Planning.IsUnloadedFor, Unplanned.unplanned_status}
 use Rattle.commands.specs.declared.unplanned.Unplanned.{Unplanned}

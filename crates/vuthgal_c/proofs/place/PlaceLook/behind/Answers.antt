@@ -1,4 +1,4 @@
-use Rattle.std.proofs.Common.{rules, ◌≤◌, ◌+◌, ℕ, sym, subst, arith, take}
+use Rattle.std.proofs.Common.{◌+◌, ℕ, sym, subst, arith, take}
 use Rattle.vuthgal_c.specs.Places.{IsBehind}
 use Rattle.vuthgal_c.proofs.Behind.{next_byte, next_line}
 use Rattle.vuthgal_c.proofs.place.PlaceLook.behind.Goals.{then-byte-eq10, else-byte-eq10}
