@@ -1,8 +1,8 @@
 //! A picture as text.
 ghost use Rattle.std.specs.Prelude.{◌≡◌, Err, IfErr, IfOk};
-ghost use Rattle.commands.specs.{Drawing.IsDrawingIn};
+ghost use Rattle.commands.specs.Drawing.{IsDrawingIn};
 ghost use Rattle.workbench.specs.declared.fault.PictureKind.TheVariants as picture;
-ghost use Rattle.workbench.specs.{declared.fault.Fault.Fault};
+ghost use Rattle.workbench.specs.declared.fault.Fault.{Fault};
 ghost use Rattle.pictures.specs.{Missing.missing_in, Picture.picture as text_of};
 ghost use Rattle.thread_machine.specs.World.{world_of};
 

@@ -1,7 +1,7 @@
 //! A picture as a page.
 ghost use Rattle.std.specs.Prelude.{◌≡◌, Err};
-ghost use Rattle.commands.specs.{Page.IsPageIn, Page.source_of};
-ghost use Rattle.pictures.specs.{Page.parts_of};
+ghost use Rattle.commands.specs.Page.{IsPageIn, source_of};
+ghost use Rattle.pictures.specs.Page.{parts_of};
 ghost use Rattle.workbench.specs.declared.fault.PictureKind.TheVariants as picture;
 
 use crate::picture::{Picture, fault_of};

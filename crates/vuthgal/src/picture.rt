@@ -67,9 +67,17 @@ fn picture<P: Picture>(
         text,
     };
     let program = input::program(report, file)?;
-    let choices = match steps {
-        OpenSteps::Beside => Choices::beside(file, beside),
-        OpenSteps::Named(name, stream) => Choices::named(name, stream),
+    match steps {
+        OpenSteps::Beside => made(
+            report,
+            picture,
+            file,
+            program,
+            Choices::beside(file, beside),
+        ),
+        OpenSteps::Named(name, stream) => {
+            made(report, picture, file, program, Choices::named(name, stream))
+        }
         OpenSteps::Plan(name, plan) => {
             let bytes = plan.as_slice();
             let written = PlanFile { name, bytes };
@@ -86,10 +94,9 @@ fn picture<P: Picture>(
             if planned.stopped {
                 explain_stopped(report, written);
             }
-            return Ok(done);
+            Ok(done)
         }
-    };
-    made(report, picture, file, program, choices)
+    }
 }
 
 /// Writes the page of the program in a file.

@@ -1,15 +1,13 @@
 -- What stands in a session of a caller.
 use Rattle.std.proofs.Common.{◌≡◌, ◌∙◌, ◌⊎◌, inl, inr, ℕ, zero, suc, List, [], ◌∷◌, ◌++◌, Option, Some, None, refl, sym, subst, ap, arith, map, take}
 use Rattle.std.specs.Option.{unwrap_or}
-use Rattle.debugger.specs.{Command.Back, Command.line_order, Reply.back_text}
-use Rattle.debugger.specs.Session.{IsHistory, went_back}
+use Rattle.debugger.specs.{Command.Back, Command.line_order, Reply.back_text, Session.IsHistory, Session.went_back}
 use Rattle.debugger.proofs.{Histories.history_on, Standings.goes_on_with}
 use Rattle.row_code.specs.declared.image.Image.{Image}
 use Rattle.schedule_reader.specs.Schedule.{Schedule, choices_of, finished_schedule}
 use Rattle.trace_text.specs.Start.{Begins}
 use Rattle.headline.proofs.{Scenes.stored_alike, Scenes.world_left, Sessions.nothing_done, Showing.file_image}
-use Rattle.thread_machine.specs.{World.World, World.world_of, declared.choice.Choice.Choice}
-use Rattle.thread_machine.specs.declared.fault.StepFault.{StepFault}
+use Rattle.thread_machine.specs.{World.World, World.world_of, declared.choice.Choice.Choice, declared.fault.StepFault.StepFault}
 use Rattle.vuthgal_c.specs.Conversation.{Call, Command, Choose, Return, GoTo, IsCall, AreCalls, StandsBehind, AreLeftBy, CallersSeeTheRows, CopiesGoOn}
 use Rattle.vuthgal_c.specs.declared.going.NotThere.{NotThere}
 use Rattle.vuthgal_c.specs.Sessions.{HasGone, Kept, not_there_status, refused_status}

@@ -5,8 +5,8 @@
 ghost use Rattle.std.specs.Prelude.{◌≡◌, ◌⊎◌, ℕ, Err, IfErr, IsTrue, OnOk};
 ghost use Rattle.std.specs.Io.KnownBytes.{Appends};
 ghost use Rattle.packed_phaser.specs.Word.{record_of};
-ghost use Rattle.workbench.specs.Race.{IsFinal, IsRaceFault, line_of};
-ghost use Rattle.workbench.specs.{declared.fault.Fault.Fault, Fault.HasReported, Fault.status_of};
+ghost use Rattle.workbench.specs.{Race.IsFinal, Race.IsRaceFault, Race.line_of, declared.fault.Fault.Fault};
+ghost use Rattle.workbench.specs.Fault.{HasReported, status_of};
 
 mod line;
 mod meeting;

@@ -25,8 +25,7 @@ pub struct Home {
 }
 
 impl Promise<Party> for Home {
-    ghost use Rattle.workbench.specs.declared.fault.Fault.{Fault};
-    ghost use Rattle.workbench.specs.Race.{HasMet};
+    ghost use Rattle.workbench.specs.{declared.fault.Fault.Fault, Race.HasMet};
 
     ghost kept_by = { λ home party. HasMet home.caller.value home.rounds party };
 }

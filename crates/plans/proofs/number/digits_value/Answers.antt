@@ -1,5 +1,4 @@
-use Rattle.std.proofs.Common.{arith}
-use Rattle.std.proofs.lemmas.Grind.{common_steps}
+use Rattle.std.proofs.{Common.arith, lemmas.Grind.common_steps}
 use Rattle.line_reader.proofs.Digits.{digits_value-next}
 use Rattle.plans.proofs.Digits.{digits_value-next_few}
 use Rattle.plans.proofs.number.digits_value.Goals as goal

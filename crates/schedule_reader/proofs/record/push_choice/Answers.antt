@@ -1,6 +1,4 @@
-use Rattle.std.proofs.Common.{arith}
-use Rattle.std.proofs.lemmas.Grind.{common_steps}
-use Rattle.std.proofs.lemmas.Bool.Decides.{nat_tests}
+use Rattle.std.proofs.{Common.arith, lemmas.Grind.common_steps, lemmas.Bool.Decides.nat_tests}
 use Rattle.schedule_reader.proofs.Records.{record-first, record-more}
 use Rattle.schedule_reader.proofs.record.push_choice.Goals as goal
 

@@ -1,5 +1,4 @@
-use Rattle.std.proofs.Common.{arith}
-use Rattle.std.proofs.lemmas.Grind.{common_steps}
+use Rattle.std.proofs.{Common.arith, lemmas.Grind.common_steps}
 use Rattle.schedule_reader.proofs.Records.{token-long, token-short}
 use Rattle.schedule_reader.proofs.record.push_once.Goals as goal
 

@@ -1,6 +1,5 @@
 use Rattle.std.proofs.Common.{rules, arith, ◌≡◌, ◌+◌, ◌≤◌, ◌++◌, drop, flat_map, get_or, length, pos}
-use Rattle.std.proofs.lemmas.Grind.{common_steps}
-use Rattle.std.proofs.lemmas.List.{drop_all}
+use Rattle.std.proofs.lemmas.{Grind.common_steps, List.drop_all}
 use Rattle.std.specs.Fmt.{signed_decimal}
 use Rattle.trace_text.specs.State.{value_text}
 use Rattle.trace_text.proofs.Traces.{all_written, flat_map-drop, one_text_more, one_value_more}

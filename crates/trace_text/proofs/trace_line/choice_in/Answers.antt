@@ -1,5 +1,4 @@
-use Rattle.std.proofs.Common.{arith}
-use Rattle.std.proofs.lemmas.Grind.{common_steps}
+use Rattle.std.proofs.{Common.arith, lemmas.Grind.common_steps}
 use Rattle.trace_text.proofs.FirstWords.{named_behind, named_none}
 use Rattle.trace_text.proofs.trace_line.choice_in.Goals as goal
 

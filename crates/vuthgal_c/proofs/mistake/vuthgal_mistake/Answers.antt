@@ -1,6 +1,6 @@
 use Rattle.std.proofs.Common.{rules, ◌≡◌, ◌≢◌, ◌∙◌, inl, inr, false, [], Some, sym, subst, OnOk}
 use Rattle.std.proofs.lemmas.Result.{IfErr-weaker}
-use Rattle.commands.specs.{Unplanned.unplanned_status}
+use Rattle.commands.specs.Unplanned.{unplanned_status}
 use Rattle.vuthgal_c.specs.{Beyond.SettlesSeeds, Mistakes.IsRight, Mistakes.Refuses, Mistakes.kind_of}
 use Rattle.vuthgal_c.specs.declared.{mistake.Kind.Kind, place.PlaceLook.PlaceLook}
 use Rattle.vuthgal_c.proofs.Mistaken.{came_to_three, has_reason, nothing_came, silent}

@@ -1,5 +1,4 @@
-use Rattle.std.proofs.Common.{arith}
-use Rattle.std.proofs.lemmas.Grind.{common_steps}
+use Rattle.std.proofs.{Common.arith, lemmas.Grind.common_steps}
 use Rattle.plans.proofs.Threads.{find_here, find_later, find_none}
 use Rattle.plans.proofs.player.Player.first_ready.Goals as goal
 

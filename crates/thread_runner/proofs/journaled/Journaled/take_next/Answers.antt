@@ -1,7 +1,6 @@
 use Rattle.std.proofs.Common.{◌≡◌, ◌∙◌, sym, subst, rules, arith, None}
 use Rattle.std.proofs.lemmas.Result.{on_ok_weaker}
-use Rattle.thread_runner.specs.{Recording.Recording, Recording.recorded_world, Endings.ending_of}
-use Rattle.thread_runner.specs.Turns.{may_choose}
+use Rattle.thread_runner.specs.{Recording.Recording, Recording.recorded_world, Endings.ending_of, Turns.may_choose}
 use Rattle.thread_runner.proofs.{Threads.one_more, Choosing.chooser}
 use Rattle.thread_runner.proofs.journaled.Journaled.take_next.Goals as goal
 

@@ -1,6 +1,5 @@
 use Rattle.std.proofs.Common.{List}
-use Rattle.tier_tree.specs.{Stored.Stored, Stored.phasers_of, Answer.KeepsEnds, Call.IsCall}
-use Rattle.tier_tree.specs.Origin.{origin_after_registration}
+use Rattle.tier_tree.specs.{Stored.Stored, Stored.phasers_of, Answer.KeepsEnds, Call.IsCall, Origin.origin_after_registration}
 use Rattle.tier_tree.proofs.Calls.{written_back, registered}
 use Rattle.tier_tree.proofs.forest.Forest.register.Goals as goal
 

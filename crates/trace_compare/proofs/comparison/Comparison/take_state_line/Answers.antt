@@ -1,6 +1,5 @@
 use Rattle.std.proofs.Common.{◌≡◌, ◌∙◌, ◌+◌, ◌-◌, ◌++◌, ◌∷◌, [], ap, arith, drop, length, length-append, sym, length-take}
-use Rattle.std.proofs.lemmas.Grind.{common_steps}
-use Rattle.std.proofs.lemmas.Slice.Eq.{bytes_eq-Decides}
+use Rattle.std.proofs.lemmas.{Grind.common_steps, Slice.Eq.bytes_eq-Decides}
 use Rattle.trace_compare.proofs.{RunLines.due-parts, Verdicts.state-further, Verdicts.not_empty}
 use Rattle.trace_compare.proofs.comparison.Comparison.take_state_line.Goals as goal
 

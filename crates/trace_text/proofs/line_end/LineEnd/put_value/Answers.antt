@@ -1,6 +1,5 @@
 use Rattle.std.proofs.Common.{◌≡◌, ◌∙◌, ◌+◌, ◌-◌, ◌≤◌, ◌++◌, List, ℕ, length, drop, set, ap, arith, to_z-of_z, unsigned_abs, length-drop, length-set}
-use Rattle.std.proofs.lemmas.Grind.{common_steps}
-use Rattle.std.proofs.lemmas.Fmt.{length-decimal-le}
+use Rattle.std.proofs.lemmas.{Grind.common_steps, Fmt.length-decimal-le}
 use Rattle.std.specs.Fmt.{decimal}
 use Rattle.trace_text.proofs.LineEnds.{room_for_value, longer_by_count, sign_before}
 use Rattle.trace_text.proofs.line_end.LineEnd.put_value.Goals as goal
