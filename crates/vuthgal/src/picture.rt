@@ -68,13 +68,10 @@ fn picture<P: Picture>(
     };
     let program = input::program(report, file)?;
     match steps {
-        OpenSteps::Beside => made(
-            report,
-            picture,
-            file,
-            program,
-            Choices::beside(file, beside),
-        ),
+        OpenSteps::Beside => {
+            let choices = Choices::beside(file, beside);
+            made(report, picture, file, program, choices)
+        }
         OpenSteps::Named(name, stream) => {
             made(report, picture, file, program, Choices::named(name, stream))
         }
