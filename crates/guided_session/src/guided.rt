@@ -127,8 +127,7 @@ impl<'a, S: Source + Drop, K: Sink + Drop, E: Sink + Drop> Person<'a, S, K, E> {
         Ok(())
     }
 
-    /// Looks at what the last command did, before the next line. If the debugger doesn't know it, shows what may have been
-    /// meant.
+    /// Looks at what the last command did, before the next line. If the debugger doesn't know it, shows what it may have meant.
     fn look(&mut self, debugger: &Debugger) -> Result<(), AllocError> {
         let command = replace(&mut self.command, Command::Print);
         if is_unknown(&command, debugger) {

@@ -8,8 +8,7 @@ use std::io;
 /// The result of all trials of a call.
 #[derive(Clone, Copy)]
 enum Outcome {
-    /// So many requests were refused in turn. Each time the call was right or returned that it is out of memory, and so often
-    /// it did the latter.
+    /// So many requests were refused in turn. Each time the call was right, or reported out of memory (`memory`).
     Refused { requests: u16, memory: u16 },
     /// With this request refused it did neither, or left blocks, or its requests had no end.
     Wrong(u16),

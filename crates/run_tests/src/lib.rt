@@ -4,17 +4,6 @@
 //! anywhere, force threads into an order, and let any call of a port fail. They also test the calls of `headline`.
 #![tactic(auto)]
 
-// Ports and words.
-#[cfg(test)]
-mod port_callers;
-#[cfg(test)]
-mod shared_callers;
-#[cfg(test)]
-mod std_ports;
-#[cfg(test)]
-mod words;
-
-// Runs.
 #[cfg(test)]
 mod closing_page;
 #[cfg(test)]
@@ -28,8 +17,16 @@ mod orders;
 #[cfg(test)]
 mod pauses;
 #[cfg(test)]
+mod port_callers;
+#[cfg(test)]
 mod programs;
 #[cfg(test)]
 mod schedules;
 #[cfg(test)]
+mod shared_callers;
+#[cfg(test)]
+mod std_ports;
+#[cfg(test)]
 mod taking;
+#[cfg(test)]
+mod words;

@@ -85,7 +85,7 @@ fn picture<P: Picture>(
             let Ok(schedule) = write_schedule(report.alloc(), planned.runs.as_slice()) else {
                 return Err(report.fault(Fault::Memory));
             };
-            let choices = Choices::named(name, input::Stream::Text(schedule.as_bytes()));
+            let choices = Choices::planned(name, schedule.as_bytes());
             let done = made(report, picture, file, program, choices)?;
             // A picture that is refused has its own help.
             if planned.stopped {

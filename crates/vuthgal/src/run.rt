@@ -60,6 +60,11 @@ impl<'a> Choices<'a> {
         }
     }
 
+    /// Returns the schedule that a plan of this name stands for.
+    pub fn planned(name: &'a str, schedule: &'a [u8]) -> Choices<'a> {
+        Choices::named(name, Stream::Text(schedule))
+    }
+
     /// Returns the schedule of this name. A text is that of a plan.
     pub fn named(name: &'a str, stream: Stream<'a>) -> Choices<'a> {
         Choices {
@@ -76,8 +81,7 @@ impl<'a> Choices<'a> {
     }
 }
 
-/// Returns `Unlike` if a run didn't end as expected, and reports that, else `AsAsked`. If a thread can still continue then, a
-/// person reads `live`.
+/// Returns `Unlike`, and reports it, if a run didn't end as expected. If a thread can still continue, a person reads `live`.
 pub fn ended(
     report: &Report<'_>,
     program: &[u8],
