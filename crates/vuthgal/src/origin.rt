@@ -2,4 +2,4 @@
 
 /// The version, and the sum of the sources but for this file.
 pub const VERSION: &str =
-    "2.0.0\nsources 4e6ea1b0f400858a7c16bbeb72a6b1b8b9bab597d2aac5ef569c28917b711fa9";
+    "2.0.0\nsources 607bda1e2eb0ab8b3afa63c39dbeeeac0433bf67db78e3d8874be4f4da6089c0";
