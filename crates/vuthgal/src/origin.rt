@@ -2,4 +2,4 @@
 
 /// The version, and the sum of the sources but for this file.
 pub const VERSION: &str =
-    "2.0.0\nsources 607bda1e2eb0ab8b3afa63c39dbeeeac0433bf67db78e3d8874be4f4da6089c0";
+    "2.0.0\nsources 5785ccebc8c3fc38389a2dc22cf667bb71cf2a308e93c4ba88fc181e0b22eda9";
