@@ -144,7 +144,7 @@ def _check(given: Dict[str, str], paths: List[str]) -> int:
     if "--keep" in given:
         paths = [keep(given["--keep"], sys.stdin.read().splitlines(), *paths)]
     own = [os.path.realpath(junit)] if junit else [""]
-    all_found = [it for it in named(paths, "--below" in given) if [*map(os.path.realpath, it.files)] != own]
+    all_found = [it for it in named(paths, "--below" in given) if [os.path.realpath(file) for file in it.files] != own]
     unlooked = [it.title for it in all_found if it.left and not it.left.status]
     all_found = [it for it in all_found if not it.left or it.left.status]
     told: List[_Told] = []

@@ -4,7 +4,7 @@ import multiprocessing
 import signal
 import threading
 from multiprocessing.connection import Connection
-from typing import Iterable, Iterator
+from typing import Generator, Iterable
 
 from .keeping import updated
 from .kept import Found, Outcome
@@ -13,7 +13,7 @@ from .playing import MOST, outcome
 _FORK = multiprocessing.get_context("fork")
 
 
-def outcomes(all_found: Iterable[Found], update: bool = False, most: int = MOST) -> Iterator[Outcome]:
+def outcomes(all_found: Iterable[Found], update: bool = False, most: int = MOST) -> Generator[Outcome, None, None]:
     """What each of these comes to; with `update` traces are written. A process that has threads plays all by itself: a
     child of it may not call the library."""
     child = None
