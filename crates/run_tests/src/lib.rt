@@ -1,7 +1,8 @@
 //! Tests by public calls, where no command of the program shows what is tested.
 //!
-//! The tests of the lowest crates call ports, packed words, and the word that real threads share. The tests of runs cut a schedule
-//! anywhere, force threads into an order, and let any call of a port fail. They also test the calls of `headline`.
+//! The tests of the lowest crates call ports, packed words, trees of phasers, and the word that real threads share. The tests of
+//! runs cut a schedule anywhere, force threads into an order, and let any call of a port fail. They also test the calls of
+//! `headline`.
 #![tactic(auto)]
 
 #[cfg(test)]
@@ -28,5 +29,7 @@ mod shared_callers;
 mod std_ports;
 #[cfg(test)]
 mod taking;
+#[cfg(test)]
+mod trees;
 #[cfg(test)]
 mod words;
