@@ -11,8 +11,8 @@ use std::alloc::{AllocError, Global};
 use std::io::Write;
 use std::marker::Model;
 
-/// How many bytes a block has.
-const BLOCK: usize = 65_536;
+/// How many bytes a block has: few, since a run of a few choices also clears them all.
+const BLOCK: usize = 16_384;
 
 /// A sink that collects bytes in a block, and passes whole blocks on to another sink, so that most calls only copy their bytes.
 /// Only `finish` passes on what is left in the block. If you drop the port instead, those bytes are lost.
@@ -36,7 +36,7 @@ impl<K> Model for BlockPort<K> {
       failed = p.failed;
     } };
 
-    ghost invariant = { λ p. (length p.block.items ≡ 65536) × (p.held ≤ 65536) };
+    ghost invariant = { λ p. (length p.block.items ≡ 16384) × (p.held ≤ 16384) };
 }
 
 impl<K: Sink + Drop> BlockPort<K> {
@@ -97,7 +97,7 @@ impl<K: Sink + Drop> BlockPort<K> {
     /// Appends `bytes` to the block, which has room for them.
     #[inline(always)]
     fn hold(&mut self, bytes: &[u8])
-        requires { length self.old.held + length bytes.now ≤ 65536 }
+        requires { length self.old.held + length bytes.now ≤ 16384 }
         ensures { self.new ≡ record self.old { held = self.old.held ++ bytes.now } }
     {
         let end = self.held + bytes.len();
