@@ -1,9 +1,9 @@
 -- Where a run isn't over, some thread has a choice to make.
 use Rattle.std.proofs.Common.{◌≡◌, ◌⊎◌, ◌<◌, ℕ, Bool, true, false, refl, arith, length, Option, None, ◌&&◌, ◌||◌, not}
 use Rattle.std.proofs.lemmas.Bool.Decides.{nat_tests}
-use Rattle.thread_machine.specs.{World.World, Ready.some_ready}
-use Rattle.thread_runner.specs.{declared.live.Break.Break, Endings.ending_of, Waiting.waits}
-use Rattle.thread_runner.specs.Turns.{expiry_of, is_ready_in, can_expire_in, some_turn, is_due, may_choose, IsDue}
+use Rattle.thread_machine.specs.{declared.choice.Choice.Choice, World.World, Ready.is_choice_ready, Ready.some_ready}
+use Rattle.thread_runner.specs.{declared.live.Break.Break, Endings.ending_of, Waiting.leaves, Waiting.waits}
+use Rattle.thread_runner.specs.Turns.{choice_in, expiry_of, is_ready_in, can_expire_in, some_turn, is_due, may_choose, IsDue}
 use Rattle.thread_runner.proofs.Threads.{Lowest, lowest, none_passes, one_passes}
 
 -- and there is a step left
@@ -59,11 +59,27 @@ due_by false due waits is = is
 pub due_by_expiry : (world : World) (t : ℕ) → t < length world.scene.threads → is_due world t ≡ true → IsDue world (expiry_of t)
 due_by_expiry world t there is = grind (arith, isnt_ready, none_ready, due_by)
 
--- so where the time of a wait is over no thread is ready
+-- a worker that neither waits nor stops has a choice to make
+chooses_by : (leaves may : Bool) → (not leaves && not may) ≡ false → leaves ≡ false → may ≡ true
+chooses_by leaves true is stays = refl
+chooses_by true false is stays = absurd (cc stays)
+chooses_by false false is stays = absurd (cc is)
+
+pub due_unless : (broken : Option Break) (world : World) (t : ℕ) (choice : Choice) → waits broken world t ≡ false
+    → leaves broken world t ≡ false → choice ≡ choice_in world t → IsDue world choice
+due_unless broken world t choice wait leave is =
+    let may = chooses_by (leaves broken world t) (may_choose world t) wait leave in
+    grind arith
+
+-- a choice that a thread has to make is a step
 waits_by : (ready due : Bool) → (ready || due) ≡ true → true ≡ not ready → due ≡ true
 waits_by true due may is = absurd (cc is)
 waits_by false due may is = may
 
+pub due_is_ready : (world : World) (choice : Choice) → IsDue world choice → is_choice_ready world.program choice world.scene ≡ true
+due_is_ready world choice due = grind (arith, waits_by)
+
+-- so where the time of a wait is over no thread is ready
 pub none_is_ready : (world : World) (waiting t : ℕ) → IsDue world (expiry_of waiting) → t < length world.scene.threads
     → is_ready_in world t ≡ false
 none_is_ready world waiting t due there = grind (arith, waits_by, isnt_ready, none_ready)

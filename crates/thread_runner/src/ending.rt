@@ -4,7 +4,7 @@ ghost use Rattle.thread_runner.specs.Endings.{standing_at};
 use thread_machine::Standing;
 
 /// How a run ended.
-#[derive(Clone, Copy, Debug, PartialEq, Eq)]
+#[derive(Clone, Copy, PartialEq, Eq)]
 pub enum Ending {
     /// Every thread has ended or died.
     AllEnded,

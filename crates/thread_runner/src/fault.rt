@@ -1,7 +1,7 @@
 use crate::left_record::LeftRecord;
 
 /// Why a step was not taken. Nothing has changed.
-#[derive(Clone, Copy, Debug, PartialEq, Eq)]
+#[derive(Clone, Copy, PartialEq, Eq)]
 pub enum TakeFault {
     /// The thread isn't ready, or its wait can't expire now.
     NotReady,

@@ -5,7 +5,7 @@ pub trait Gate {
 }
 
 /// A gate that lets every worker through at once.
-#[derive(Clone, Copy, Debug, PartialEq, Eq)]
+#[derive(Clone, Copy, PartialEq, Eq)]
 pub struct NoGate;
 
 impl Gate for NoGate {

@@ -1,5 +1,5 @@
 ghost use Rattle.std.specs.Prelude.{◌≡◌, ◌≢◌, ◌↔◌, ℕ, ◌+◌, ◌*◌, ◌<◌, ◌≤◌, ◌++◌, ◌∷◌, [], length, IfOk, IfErr, OnOk, OnErr, Err, true, false, Some, None};
-ghost use Rattle.thread_machine.specs.{World.world_of, World.first_world, Ready.is_choice_ready, Step.played};
+ghost use Rattle.thread_machine.specs.{World.world_of, World.first_world, Step.played};
 ghost use Rattle.schedule_reader.specs.{Schedule.choices_of, Schedule.finished_schedule, Record.record_text};
 ghost use Rattle.thread_runner.specs.Recording.{recorded_world, begun, recording_of, with_choice};
 ghost use Rattle.thread_runner.specs.Turns.{turn_of, expiry_of, choice_in, is_ready_in, can_expire_in, is_due, may_choose, some_turn, some_lower, IsDue, IsNext};
@@ -90,11 +90,10 @@ impl Journaled {
         })
     }
 
-    /// Plays a choice that is a step, and records it. It makes room in the record first, so that after a failure nothing has
-    /// changed. The call of `has_few_threads` only helps the proof.
-    fn take(&mut self, choice: Choice) -> Result<Event, TakeFault>
+    /// Makes a choice that its thread has to make, and records it. It makes room in the record first, so that after a failure
+    /// nothing has changed. The call of `has_few_threads` only helps the proof.
+    pub(crate) fn take(&mut self, choice: Choice) -> Result<Event, TakeFault>
         requires thread { choice.thread < length self.old.first.scene.threads }
-        requires ready { is_choice_ready (recorded_world self.old).program choice (recorded_world self.old).scene ≡ true }
         requires due { IsDue (recorded_world self.old) choice }
         ensures played { IfOk result (λ event. record { world = recorded_world self.new; event = event }
             ≡ played (recorded_world self.old) choice) }
@@ -177,24 +176,15 @@ impl Journaled {
         matches!(self.machine.status(thread), Status::Ended | Status::Died(_))
     }
 
-    /// Makes the choice that a thread has to make, and records it: its turn, or its wait's expiry. `NotReady`: it has none.
-    pub fn take_choice(&mut self, thread: u8) -> Result<Event, TakeFault>
-        requires { thread < length self.old.first.scene.threads }
-        ensures recorded { OnOk result
-            (self.new ≡ with_choice (choice_in (recorded_world self.old) thread) self.old) }
-        ensures not_ready { (result ≡ Err TakeFault.NotReady)
-            ↔ (may_choose (recorded_world self.old) thread ≡ false) }
-        ensures limit { (result ≡ Err TakeFault.StepLimit) ↔ ((may_choose (recorded_world self.old) thread ≡ true)
-            × ((recorded_world self.old).limit ≤ (recorded_world self.old).steps)) }
-        ensures err { OnErr result (self.new ≡ self.old) }
+    /// Returns the choice that a thread has to make, if it has one: its turn, or if it isn't runnable, its wait's expiry.
+    pub(crate) fn choice_of(&self, thread: u8) -> Choice
+        requires { thread < length self.now.first.scene.threads }
+        ensures { result ≡ choice_in (recorded_world self.now) thread }
     {
-        if self.is_ready(thread) {
-            return self.take(Choice {
-                thread,
-                expiry: false,
-            });
+        Choice {
+            thread,
+            expiry: !self.is_ready(thread),
         }
-        self.take_expiry(thread)
     }
 
     /// Makes the choice of the lowest thread that has one, and records it. The run isn't over, so it fails only without memory.
@@ -210,7 +200,7 @@ impl Journaled {
     {
         for t in 0..self.thread_count() {
             if self.may_choose(t as u8) {
-                return self.take_choice(t as u8);
+                return self.take(self.choice_of(t as u8));
             }
         }
         unreachable!()

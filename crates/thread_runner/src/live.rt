@@ -12,7 +12,7 @@ use std::marker::{Brand, PhantomData};
 use std::sync::Condvar;
 
 /// Why a run was broken off.
-#[derive(Clone, Copy, Debug, PartialEq, Eq)]
+#[derive(Clone, Copy, PartialEq, Eq)]
 pub enum Break {
     /// A worker's step was out of memory.
     Memory,
@@ -123,7 +123,8 @@ impl LiveState {
         if self.leaves(thread) {
             return false;
         }
-        match self.journaled.take_choice(thread) {
+        let choice = self.journaled.choice_of(thread);
+        match self.journaled.take(choice) {
             Ok(_) => true,
             Err(TakeFault::Memory) => {
                 self.broken = Some(Break::Memory);

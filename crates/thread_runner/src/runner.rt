@@ -168,7 +168,7 @@ fn run_of<O: Origin + Send + Sync, R: Threads + Wait + Sync, G: Gate + Sync>(
 }
 
 /// Returns the schedule, the machine and the ending of a record whose run has ended so.
-fn ended(journaled: Journaled, ending: Ending) -> LiveRun
+fn live_run(journaled: Journaled, ending: Ending) -> LiveRun
     requires { ending_of (recorded_world journaled) ≡ Some ending }
     ensures record { IsRecordOf journaled.first result.schedule.items (world_of result.machine) }
     ensures ending { ending_of (world_of result.machine) ≡ Some result.ending }
@@ -203,7 +203,7 @@ pub fn run_live<R: Threads + Wait + Sync, G: Gate + Sync>(
     };
     // `Brand` names its origin, which only contracts use.
     match run_of::<Brand, R, G>(rt, journaled, gate) {
-        Ok((journaled, ending)) => Ok(ended(journaled, ending)),
+        Ok((journaled, ending)) => Ok(live_run(journaled, ending)),
         Err(fault) => Err(fault),
     }
 }

@@ -4,7 +4,7 @@ ghost use Rattle.std.specs.Prelude.{◌≤◌, IfSome};
 
 use crate::expectation::expectations;
 use crate::input::{self, block_port};
-use crate::run::{ended, fail};
+use crate::run::{fail, report_end};
 use byte_ports::WritePort;
 use commands::{Asked, Pauses, report_runs};
 use fault_reports::files::{self, STANDARD_OUTPUT};
@@ -23,26 +23,6 @@ use workbench::racing::pace::NoPace;
 /// What `live` means if the limit of steps ended the run.
 const LIMIT_ENDS: &str =
     "live: some threads could still continue, but the limit of steps was reached; `--limit N` sets it";
-
-/// Plays an image's program once on real threads, and writes the trace. With a seed the threads pause a little.
-fn played<R: Threads + Wait + Sync>(
-    threads: &R,
-    report: &Report<'_>,
-    file: ProgramFile<'_>,
-    image: Image,
-    asked: &Asked<'_>,
-) -> Result<Done, Reported>
-    requires { asked.now.limit ≤ 1000000000 }
-{
-    let mut output = block_port(report)?;
-    let gate = asked.pauses.of_run(0, &NoGate);
-    let alloc = report.alloc();
-    let answer = shown::live(threads, alloc, asked.limit, &gate, image, &mut output);
-    match passed_on(answer, &mut output) {
-        Ok(end) => Ok(ended(report, file.bytes, asked.expected, &end, LIMIT_ENDS)),
-        Err(fault) => Err(fail(report, file, file.name, fault)),
-    }
-}
 
 /// Plays the program `asked.runs` times, and writes how the runs ended. Returns `Unlike` if one didn't end as expected.
 fn played_often<R: Threads + Wait + Sync>(
@@ -67,7 +47,7 @@ fn played_often<R: Threads + Wait + Sync>(
     }
 }
 
-/// Plays the program in a file on real threads: once, and writes the trace, or `runs` times, and writes how the runs ended. By
+/// Plays the program in a file on real threads: once, and writes the trace, or `runs` times, and writes how the runs ended. With
 /// a `seed` the threads pause a little before some of their turns.
 pub fn live<R: Threads + Wait + Sync>(
     threads: &R,
@@ -92,9 +72,15 @@ pub fn live<R: Threads + Wait + Sync>(
         expected: expected.as_slice(),
     };
     if runs.is_some() {
-        played_often(threads, report, file, program.image, &asked)
-    } else {
-        played(threads, report, file, program.image, &asked)
+        return played_often(threads, report, file, program.image, &asked);
+    }
+    let mut output = block_port(report)?;
+    let gate = asked.pauses.of_run(0, &NoGate);
+    let alloc = report.alloc();
+    let answer = shown::live(threads, alloc, limit, &gate, program.image, &mut output);
+    match passed_on(answer, &mut output) {
+        Ok(end) => Ok(report_end(report, file.bytes, asked.expected, &end, LIMIT_ENDS)),
+        Err(fault) => Err(fail(report, file, name, fault)),
     }
 }
 

@@ -66,7 +66,7 @@ pub fn live<R: Threads + Wait + Sync, G: Gate + Sync, K: Sink>(
         Ok(again) => again,
         Err(_) => return Err(Fault::Memory),
     };
-    let runs = match recorded(rt, alloc, limit, gate, program) {
+    let runs = match runs_of(alloc, run_live(rt, alloc, program, limit, gate)) {
         Ok(runs) => runs,
         Err(fault) => return Err(fault),
     };
@@ -119,21 +119,4 @@ fn runs_of(alloc: Global, ran: Result<LiveRun, LiveFault>) -> Result<Vec<Run>, F
         Ok(runs) => Ok(runs),
         Err(_) => Err(Fault::Memory),
     }
-}
-
-/// Plays a program on real threads, at most `limit` steps. Returns the choices that they made, or why it was broken off.
-fn recorded<R: Threads + Wait + Sync, G: Gate + Sync>(
-    rt: &R,
-    alloc: Global,
-    limit: u32,
-    gate: &G,
-    program: Loaded,
-) -> Result<Vec<Run>, Fault>
-    requires { limit ≤ 1000000000 }
-    ensures recorded { IfOk result (λ runs. (image : Image) → first_fault image ≡ None → IsProgramOf image program
-        → IsRecorded image limit (choices_of runs.items)) }
-    ensures runs { IfOk result (λ runs. All IsRun runs.items) }
-    ensures fault { IfErr result (λ fault. (fault ≡ Fault.Memory) ⊎ (fault ≡ Fault.Spawn)) }
-{
-    runs_of(alloc, run_live(rt, alloc, program, limit, gate))
 }

@@ -1,7 +1,8 @@
 use Rattle.std.proofs.Common.{◌≡◌, ◌∙◌, ap, arith, rules, sym, subst, true}
-use Rattle.thread_machine.specs.{World.World, World.world_of, World.first_world, Ready.is_choice_ready}
+use Rattle.thread_machine.specs.{World.World, World.world_of, World.first_world}
 use Rattle.thread_machine.specs.Step.{Played, played}
 use Rattle.thread_runner.specs.{Recording.recording_of, Recording.recorded_world, Recording.with_choice, Turns.IsDue}
+use Rattle.thread_runner.proofs.Choosing.{due_is_ready}
 use Rattle.thread_runner.proofs.Replays.{recorded_more, replay_more, same_first}
 use Rattle.thread_runner.proofs.journaled.Journaled.take.Goals as goal
 
@@ -12,9 +13,8 @@ invariant_of-self-in-Ok c =
     let old = c.self.inside.schedule.items in
     let first = first_world m.program m.limit in
     let here : recorded_world c.args.self.now ≡ world_of m = ap recorded_world (sym c.self.view_is) ∙ c.self.invariant.replay.replay.leads in
-    let ready : is_choice_ready m.program c.args.choice (world_of m).scene ≡ true =
-    subst (λ (w : World). is_choice_ready w.program c.args.choice w.scene ≡ true) here c.requires.ready in
     let due : IsDue (world_of m) c.args.choice = subst (λ (w : World). IsDue w c.args.choice) here c.requires.due in
+    let ready = due_is_ready (world_of m) c.args.choice due in
     let is : world_of after ≡ (played (world_of m) c.args.choice).world = ap (λ (p : Played). p.world) c.in-Ok.ensures.played in
     let replay = replay_more (recording_of first old) c.args.choice (world_of m) (world_of after) c.self.invariant.replay.replay ready
     c.in-Ok.ensures.accepted (search (rules, arith)) is c.step.ensures.threads due in
@@ -30,9 +30,8 @@ returns-in-Ok-clause-recorded c =
     let old = c.self.inside.schedule.items in
     let first = first_world m.program m.limit in
     let here : recorded_world c.args.self.now ≡ world_of m = ap recorded_world (sym c.self.view_is) ∙ c.self.invariant.replay.replay.leads in
-    let ready : is_choice_ready m.program c.args.choice (world_of m).scene ≡ true =
-    subst (λ (w : World). is_choice_ready w.program c.args.choice w.scene ≡ true) here c.requires.ready in
     let due : IsDue (world_of m) c.args.choice = subst (λ (w : World). IsDue w c.args.choice) here c.requires.due in
+    let ready = due_is_ready (world_of m) c.args.choice due in
     let is : world_of after ≡ (played (world_of m) c.args.choice).world = ap (λ (p : Played). p.world) c.in-Ok.ensures.played in
     let replay = replay_more (recording_of first old) c.args.choice (world_of m) (world_of after) c.self.invariant.replay.replay ready
     c.in-Ok.ensures.accepted (search (rules, arith)) is c.step.ensures.threads due in
