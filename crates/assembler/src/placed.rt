@@ -17,14 +17,14 @@ use line_reader::symbolic_phaser::SymbolicPolicy;
 use line_reader::words::{before_comment, place_of_forbidden};
 
 /// A name that nothing of the required kind has, and the kind of what has it, if there is something.
-#[derive(Clone, Copy, Debug, PartialEq, Eq)]
+#[derive(Clone, Copy, PartialEq, Eq)]
 pub struct UnknownName {
     pub wanted: OperandKind,
     pub given: Option<OperandKind>,
 }
 
 /// The fault of a text, and where in its line it is.
-#[derive(Clone, Copy, Debug, PartialEq, Eq)]
+#[derive(Clone, Copy, PartialEq, Eq)]
 pub struct PlacedFault {
     pub fault: AsmFault,
     /// The word that makes the fault, or the byte for `BadByte`. `None` if the line is too long, or out of memory.

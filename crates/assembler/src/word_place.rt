@@ -8,7 +8,7 @@ use line_reader::first_line::first_line;
 use line_reader::words::is_blank;
 
 /// A word of a line: the place of its first byte, from 0, and its length in bytes.
-#[derive(Clone, Copy, Debug, PartialEq, Eq)]
+#[derive(Clone, Copy, PartialEq, Eq)]
 pub struct WordPlace {
     pub at: usize,
     pub length: usize,

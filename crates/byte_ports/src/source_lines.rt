@@ -21,7 +21,7 @@ const ROOM: usize = 81_920;
 const MOST_READS: u64 = 1_000_000_000;
 
 /// How a line ends.
-#[derive(Clone, Copy, Debug, PartialEq, Eq)]
+#[derive(Clone, Copy, PartialEq, Eq)]
 pub enum LineEnded {
     /// By its LF.
     Whole,

@@ -101,7 +101,7 @@ pub struct Orders<'a> {
 }
 
 /// When a failure is explained.
-#[derive(Clone, Copy, Debug, PartialEq, Eq)]
+#[derive(Clone, Copy, PartialEq, Eq)]
 pub enum When {
     Always,
     /// At a terminal.

@@ -11,19 +11,19 @@ abbrev pub schedule_line : List Run → List ℕ
 schedule_line runs = schedule_text runs ++ 10 ∷ []
 
 -- the line that says where the trace isn't one
-abbrev pub told_line : Option ℕ → List ℕ
-told_line None = []
-told_line (Some line) = counted_line (codes "not a trace ") line
+abbrev pub written_line : Option ℕ → List ℕ
+written_line None = []
+written_line (Some line) = counted_line (codes "not a trace ") line
 
 -- the line of choices, joined if they repeat, and after it where the trace isn't one
-abbrev pub IsTold : Naming → List ℕ → Type 0
-IsTold naming text =
+abbrev pub IsWrittenLine : Naming → List ℕ → Type 0
+IsWrittenLine naming text =
     (runs : List Run)
     × ((naming.choices ≡ choices_of runs) × All IsRun runs × AreJoined runs
-    × (text ≡ line_by (is_none naming.no_line) runs ++ told_line naming.no_line))
+    × (text ≡ line_by (is_none naming.no_line) runs ++ written_line naming.no_line))
 
 -- the trace was read as far as necessary; its choices were written, and where it isn't a trace
-abbrev pub HasToldChoices : Naming → (trace_before trace_after output_before output_after : Option (List ℕ)) → Type 0
-HasToldChoices naming trace_before trace_after output_before output_after =
+abbrev pub HasWrittenChoices : Naming → (trace_before trace_after output_before output_after : Option (List ℕ)) → Type 0
+HasWrittenChoices naming trace_before trace_after output_before output_after =
     HasRead trace_before trace_after naming
-    × ((text : List ℕ) × (IsTold naming text × Appends output_before output_after text))
+    × ((text : List ℕ) × (IsWrittenLine naming text × Appends output_before output_after text))

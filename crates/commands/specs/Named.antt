@@ -60,12 +60,12 @@ abbrev pub line_by : (names : Option (List (List ℕ))) → List Run → List �
 line_by names runs = text_by names runs ++ 10 ∷ []
 
 -- a schedule by names, or as it is if it has a fault, which that of a run hasn't
-abbrev pub told_unless : Option ScheduleFault → (named : List ℕ) → (schedule : List ℕ) → List ℕ
-told_unless None named schedule = named
-told_unless (Some fault) named schedule = schedule
+abbrev pub reported_unless : Option ScheduleFault → (named : List ℕ) → (schedule : List ℕ) → List ℕ
+reported_unless None named schedule = named
+reported_unless (Some fault) named schedule = schedule
 
 -- the text that is written for a schedule
-abbrev pub told_by : (names : Option (List (List ℕ))) → (schedule : List ℕ) → List ℕ
-told_by None schedule = schedule
-told_by (Some names) schedule =
-    told_unless (finished_schedule schedule).fault (named_text names (finished_schedule schedule).runs) schedule
+abbrev pub reported_by : (names : Option (List (List ℕ))) → (schedule : List ℕ) → List ℕ
+reported_by None schedule = schedule
+reported_by (Some names) schedule =
+    reported_unless (finished_schedule schedule).fault (named_text names (finished_schedule schedule).runs) schedule

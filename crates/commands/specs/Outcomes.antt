@@ -4,7 +4,7 @@ use Rattle.std.specs.{List.IsDistinct, List.list_all, Global.Vec, String.string_
 use Rattle.trace_text.specs.{Expectation.are_met, ExpectedLine.has_died}
 use Rattle.thread_machine.specs.World.{World}
 use Rattle.thread_runner.specs.{declared.ending.Ending.Ending, Endings.ending_of, Replay.IsReplayOfText}
-use Rattle.commands.specs.{declared.end_state.EndState.EndState, declared.outcomes.Outcome.Outcome, Named.told_by}
+use Rattle.commands.specs.{declared.end_state.EndState.EndState, declared.outcomes.Outcome.Outcome, Named.reported_by}
 use Rattle.commands.specs.Ends.{end_text, ending_word}
 use Rattle.workbench.specs.declared.done.Done.{Done}
 use Rattle.workbench.specs.declared.done.Done.TheVariants as done
@@ -29,21 +29,21 @@ abbrev pub ends_in : List ℕ → Ended → Bool
 ends_in state run = bytes_eq state run.state
 
 -- how often runs ended in a state, how the first of them ended, and its seed and its schedule
-pub record Told : Type 0 where
+pub record Reported : Type 0 where
   pub times : ℕ
   pub ending : Ending
   pub seed : Option ℕ
   pub schedule : List ℕ
 
-abbrev pub told_of : List Ended → Option Told
-told_of [] = None
-told_of (run ∷ runs) = Some (record { times = length (run ∷ runs); ending = run.ending; seed = run.seed; schedule = run.schedule })
+abbrev pub reported_of : List Ended → Option Reported
+reported_of [] = None
+reported_of (run ∷ runs) = Some (record { times = length (run ∷ runs); ending = run.ending; seed = run.seed; schedule = run.schedule })
 
-abbrev pub told_in : List Ended → List ℕ → Option Told
-told_in runs state = told_of (filter (ends_in state) runs)
+abbrev pub reported_in : List Ended → List ℕ → Option Reported
+reported_in runs state = reported_of (filter (ends_in state) runs)
 
-abbrev pub told : Outcome → Told
-told outcome = record {
+abbrev pub reported : Outcome → Reported
+reported outcome = record {
   times = outcome.times;
   ending = outcome.ending;
   seed = outcome.seed;
@@ -57,7 +57,7 @@ is_state a b = bytes_eq a.text.items b.text.items
 abbrev pub AreOutcomes : List Ended → List (EndState × Outcome) → Type 0
 AreOutcomes runs outcomes =
     IsDistinct is_state (keys_of outcomes)
-    × ((state : EndState) → option_map told (lookup (is_state state) outcomes) ≡ told_in runs state.text.items)
+    × ((state : EndState) → option_map reported (lookup (is_state state) outcomes) ≡ reported_in runs state.text.items)
 
 -- whether one outcome came more often than another
 abbrev pub is_more_frequent : EndState × Outcome → EndState × Outcome → Bool
@@ -77,7 +77,7 @@ seed_mark (Some seed) = codes "?" ++ (decimal seed ++ codes " ")
 
 -- the seed and the schedule of an outcome, which end its line; the schedule has these names, if there are some
 abbrev pub order_text : (names : Option (List (List ℕ))) → Outcome → List ℕ
-order_text names outcome = seed_mark outcome.seed ++ (told_by names (string_bytes outcome.schedule) ++ codes "\n")
+order_text names outcome = seed_mark outcome.seed ++ (reported_by names (string_bytes outcome.schedule) ++ codes "\n")
 
 abbrev pub outcome_line : (names : Option (List (List ℕ))) → EndState × Outcome → List ℕ
 outcome_line names (state, outcome) =

@@ -76,12 +76,12 @@ AreOutcomesBy program names plan seeds outcomes unlike =
     × AreOutcomes runs outcomes × IsFirstUnlike seeds.expected.now runs unlike)
 
 -- the names that the schedules have, or none if they have numbers
-abbrev pub names_told : (has_names : Bool) → List (List ℕ) → Option (List (List ℕ))
-names_told has_names names = if has_names then Some names else None
+abbrev pub names_reported : (has_names : Bool) → List (List ℕ) → Option (List (List ℕ))
+names_reported has_names names = if has_names then Some names else None
 
 -- they were written, the most frequent first, and the first that ended otherwise is answered
 abbrev pub HasReportedSeeds : Program → (plan : List ℕ) → Seeds → Option Unlike → (output_before output_after : Option (List ℕ)) → Type 0
 HasReportedSeeds program plan seeds unlike output_before output_after =
     (loaded : Loaded) × ((names : List (List ℕ)) × ((outcomes : List (EndState × Outcome))
     × (HasThreads program.image program.names names × IsProgramOf program.image loaded × AreOutcomesBy loaded names plan seeds outcomes unlike
-    × IsMostFrequentFirst outcomes × Appends output_before output_after (report (names_told seeds.has_names names) outcomes))))
+    × IsMostFrequentFirst outcomes × Appends output_before output_after (report (names_reported seeds.has_names names) outcomes))))

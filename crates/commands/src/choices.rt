@@ -2,7 +2,7 @@ ghost use Rattle.std.specs.Prelude.{◌≡◌, ◌⊎◌, Err, IsTrue, IfErr, If
 ghost use Rattle.trace_compare.specs.{Naming.Naming, Writing.HasWrittenPart};
 ghost use Rattle.trace_text.specs.RunText.{GivesOnAndOn};
 ghost use Rattle.workbench.specs.declared.fault.Fault.{Fault};
-ghost use Rattle.commands.specs.Choices.{HasToldChoices};
+ghost use Rattle.commands.specs.Choices.{HasWrittenChoices};
 
 use byte_ports::{Sink, Source};
 use std::alloc::Global;
@@ -18,7 +18,7 @@ pub fn choices<S: Source, K: Sink>(
     output: &mut K,
 ) -> Result<bool, Fault>
     ensures done { IfOk result (λ is_trace. (naming : Naming) × ((is_trace ≡ is_none naming.no_line)
-        × HasToldChoices naming (S.left trace.old) (S.left trace.new) (K.written output.old) (K.written output.new))) }
+        × HasWrittenChoices naming (S.left trace.old) (S.left trace.new) (K.written output.old) (K.written output.new))) }
     ensures fault { IfErr result (λ fault. (fault ≡ Fault.Memory) ⊎ ((fault ≡ Fault.Read) ⊎ (fault ≡ Fault.Write))) }
     ensures unchanged { result ≡ Err Fault.Memory
         → (S.left trace.new ≡ S.left trace.old) × (K.written output.new ≡ K.written output.old) }

@@ -5,7 +5,7 @@ ghost use Rattle.schedule_reader.specs.Schedule.{finished_schedule};
 ghost use Rattle.commands.specs.Rows.{AreSaid, IsRowListing, row_lines};
 
 /// A law: the listing of a text has one line number for each row of the image, and this line of the text spells the row.
-pub fn a_row_is_told_with_the_line_that_says_it()
+pub fn a_row_is_listed_with_the_line_that_says_it()
     ensures { (text : List ℕ) (lines : List (Line Name)) → SayInOrder 1 (lines_of text) lines
         → AreSaid (lines_of text) lines (image_of lines).rows (row_lines lines) }
 {}

@@ -42,7 +42,7 @@ pub mod seeds;
 pub use comparison::show_comparison;
 pub use law::{
     a_file_has_one_listing, a_line_of_a_schedule_is_the_schedule,
-    a_row_is_told_with_the_line_that_says_it,
+    a_row_is_listed_with_the_line_that_says_it,
 };
 pub use many_runs::{Asked, report_runs};
 pub use pauses::Pauses;

@@ -14,7 +14,7 @@ use crate::pauses::stirred::Stirred;
 use thread_runner::Gate;
 
 /// Whether threads pause before some of their turns, and by which seed.
-#[derive(Clone, Copy, Debug, PartialEq, Eq)]
+#[derive(Clone, Copy, PartialEq, Eq)]
 pub struct Pauses {
     pub seed: Option<u32>,
 }

@@ -1,7 +1,7 @@
 //! The results of several runs, as lines.
 ghost use Rattle.std.specs.Prelude.{◌≡◌, ◌⊎◌, ◌≤◌, ◌++◌, Err, IsTrue, IfErr, IfOk, IfSome, OnOk, length};
 ghost use Rattle.std.specs.Io.KnownBytes.{Appends};
-ghost use Rattle.commands.specs.Named.{names_seen, told_by};
+ghost use Rattle.commands.specs.Named.{names_seen, reported_by};
 ghost use Rattle.commands.specs.Outcomes.{are_as_expected, died_mark, order_text, outcome_line, report, done_by, seed_mark};
 ghost use Rattle.trace_text.specs.Expectation.{are_met};
 ghost use Rattle.workbench.specs.declared.fault.Fault.{Fault};
@@ -53,7 +53,7 @@ fn push_schedule(
     schedule: &str,
 ) -> Result<(), AllocError>
     requires { IfSome names (λ names. length names.now ≤ 64) }
-    ensures { OnOk result (text.new.items ≡ text.old.items ++ told_by (names_seen names.entry) schedule.now) }
+    ensures { OnOk result (text.new.items ≡ text.old.items ++ reported_by (names_seen names.entry) schedule.now) }
 {
     let Some(names) = names else {
         return text.extend_from_slice(schedule.as_bytes());

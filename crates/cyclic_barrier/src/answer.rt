@@ -1,5 +1,5 @@
 /// The result of a call of `await`.
-#[derive(Clone, Copy, Debug, PartialEq, Eq)]
+#[derive(Clone, Copy, PartialEq, Eq)]
 pub enum Entered {
     /// It waits; this is its arrival index, parties - 1 for the first and never 0.
     Wait(u16),
@@ -20,7 +20,7 @@ pub enum Entered {
 }
 
 /// The state of a wait.
-#[derive(Clone, Copy, Debug, PartialEq, Eq)]
+#[derive(Clone, Copy, PartialEq, Eq)]
 pub enum WaitState {
     /// Its generation has not ended.
     Waiting,

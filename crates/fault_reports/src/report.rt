@@ -37,7 +37,7 @@ const ROOM: usize = 32;
 const LONGEST_LINE: usize = 64;
 
 /// A failure that is reported. Only the exit status is left.
-#[derive(Clone, Copy, Debug, PartialEq, Eq)]
+#[derive(Clone, Copy, PartialEq, Eq)]
 pub struct Reported {
     pub status: u8,
 }

@@ -13,7 +13,7 @@ use Rattle.trace_text.specs.{declared.run.RunFault.RunFault, declared.run_end.Ru
 use Rattle.trace_text.specs.declared.run.RunFault.TheVariants as run_fault
 use Rattle.workbench.specs.{declared.fault.Fault.Fault, Done.IsSettledBy, Done.as_asked, Fault.refusal_status, Fault.status_of}
 use Rattle.workbench.specs.{Input.GivesAll, Input.GivesTooMuch, Input.most_bytes, ProgramFile.IsNoTextFor}
-use Rattle.workbench.specs.Outcome.{ComesOf, PlaysText, told_as}
+use Rattle.workbench.specs.Outcome.{ComesOf, PlaysText, fault_of_run}
 use Rattle.workbench.specs.RunLine.{after_run, is_run_line, program_part, schedule_part}
 use Rattle.workbench.specs.declared.fault.Fault.TheVariants as fault
 use Rattle.headline.specs.EndToEnd.{HasShownText}
@@ -80,7 +80,7 @@ no_text fault.Write text before after none is shows = absurd none
 
 no_run : (text : List ℕ) (image : Image) (why : RunFault) (rest output_before output_after : Option (List ℕ)) (failed : Bool)
     (before after : Option (List ℕ)) → StandsFor (program_part text) image
-    → Stops image why (Some (schedule_part text)) rest false output_before output_after failed → status_of (told_as why) ≡ 3
+    → Stops image why (Some (schedule_part text)) rest false output_before output_after failed → status_of (fault_of_run why) ≡ 3
     → HasShownText text before after → ⊥
 no_run text image (run_fault.Load f) rest a b failed before after stands (refused, other, untouched) is shows =
     never-shown text image f before after stands refused shows
@@ -114,7 +114,7 @@ schedule-short text =
 -- so only the output can fail of the ports
 unwritten : (text : List ℕ) (image : Image) (why : RunFault) (rest before after : Option (List ℕ)) (failed : Bool)
     → Stops image why (Some (schedule_part text)) rest false before after failed → length text ≤ most_bytes
-    → status_of (told_as why) ≡ 5 → IsTrue failed
+    → status_of (fault_of_run why) ≡ 5 → IsTrue failed
 unwritten text image (run_fault.Load f) rest before after failed stops few is = absurd (omega (arith, refusal_low (load_number f), is))
 unwritten text image (run_fault.Schedule f) rest before after failed stops few is =
     absurd (omega (arith, refusal_low (schedule_number f), is))

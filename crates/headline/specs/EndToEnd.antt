@@ -31,7 +31,7 @@
 --      WritesVerdict, workbench/specs/Compare.antt), and `same` exactly if it is the trace of the choices that its lines name
 --      (HasFoundTheSame, below, and the law `the_same_is_that_trace_alone` in src/shown.rt); with `--show` also a line of the
 --      run (ShowsComparison, commands/specs/Showing.antt). That the other line shown is the trace's is only tested.
---   `choices`: the schedule of the choices that a trace's lines name (HasToldChoices, commands/specs/Choices.antt).
+--   `choices`: the schedule of the choices that a trace's lines name (HasWrittenChoices, commands/specs/Choices.antt).
 --   `plan`: the choices that the plan plays on the program (HasPlanned, commands/specs/Planning.antt); with `--seeds` how the
 --      runs of these seeds end (HasReportedSeeds, commands/specs/Seeds.antt).
 --   `show`, `draw`: a page or a picture of exactly this run (HasMade, commands/specs/Pictures.antt; IsPageOf and IsPictureOf,

@@ -1,5 +1,5 @@
 /// What an operand of a row is, and so how a program's text writes it.
-#[derive(Clone, Copy, Debug, PartialEq, Eq)]
+#[derive(Clone, Copy, PartialEq, Eq)]
 pub enum OperandKind {
     /// `r0` to `r7`.
     Register,

@@ -5,7 +5,7 @@ ghost use Rattle.line_reader.specs.declared.asm_fault.AsmFaultKind.TheVariants.{
 use std::alloc::{AllocError, AllocFailed};
 
 /// What is wrong with a line of a text.
-#[derive(Clone, Copy, Debug, PartialEq, Eq)]
+#[derive(Clone, Copy, PartialEq, Eq)]
 pub enum AsmFaultKind {
     /// A byte that no line may have, not even in a comment.
     BadByte,
@@ -62,14 +62,14 @@ impl AsmFaultKind {
 }
 
 /// The first fault of a text and its line, counted from 1. For `Memory` it is the line that was being read.
-#[derive(Clone, Copy, Debug, PartialEq, Eq)]
+#[derive(Clone, Copy, PartialEq, Eq)]
 pub struct AsmFault {
     pub line: u64,
     pub kind: AsmFaultKind,
 }
 
 /// What is wrong with the words of a line, and how many of them are left there: the first of these is wrong.
-#[derive(Clone, Copy, Debug, PartialEq, Eq)]
+#[derive(Clone, Copy, PartialEq, Eq)]
 pub struct WordFault {
     pub kind: AsmFaultKind,
     pub left: u8,

@@ -6,7 +6,7 @@ use std::alloc::{AllocError, AllocFailed};
 use tier_tree::DeclareFault;
 
 /// What names a row that doesn't exist, by its number.
-#[derive(Clone, Copy, Debug, PartialEq, Eq)]
+#[derive(Clone, Copy, PartialEq, Eq)]
 pub enum Place {
     Row(u16),
     Thread(u8),
@@ -17,7 +17,7 @@ pub enum Place {
 }
 
 /// Why an image is refused: the first fault in the order in which `load` checks.
-#[derive(Clone, Copy, Debug, PartialEq, Eq)]
+#[derive(Clone, Copy, PartialEq, Eq)]
 pub enum LoadFault {
     /// This place names a row that isn't there.
     Target(Place),

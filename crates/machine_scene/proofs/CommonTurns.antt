@@ -8,13 +8,13 @@ use Rattle.thread_state.specs.declared.event.Event.{Event}
 use Rattle.machine_scene.specs.{declared.ready_set.ReadySet.ReadySet, Ready.may_be_blocked}
 use Rattle.machine_scene.specs.Scene.{Scene, StoredScene, Outcome, scene_of, thread_at}
 use Rattle.machine_scene.specs.Outcomes.{outcome_of_row, outcome_in, is_ready}
-use Rattle.machine_scene.specs.ReadySet.{KnowsReady, AreReadyBeside, is_registering, interrupts, is_loud, changes_all, is_arrival, is_common, is_wait}
+use Rattle.machine_scene.specs.ReadySet.{KnowsReady, AreReadyBeside, is_registering, interrupts, concerns_others, changes_all, is_arrival, is_common, is_wait}
 use Rattle.machine_scene.proofs.{ReadySets.seldom_registers, ReadySets.somebody_registers, Standings.arrival-standings}
 use Rattle.machine_scene.proofs.Steady.{other_ready}
 
 -- a row at which nobody has to wait, and by which no other thread's turn changes where the event shows no more than a turn
 record IsCalm (row : Row) : Type 0 where
-  pub few : (event : Event) → is_loud event ≡ false → changes_all row event ≡ false
+  pub few : (event : Event) → concerns_others event ≡ false → changes_all row event ≡ false
   pub interrupts : (u : ℕ) → interrupts u row ≡ false
   pub seldom : may_be_blocked row ≡ false
 
@@ -53,7 +53,7 @@ apart_kept program row t old mid event after knows = grind (arith, seldom_regist
 
 -- of all others the sets are right
 pub beside_kept : (program : Program) (row : Row) (t : ℕ) (old mid : StoredScene) (event : Event) → AfterCommon program row t old mid event
-    → KnowsReady program old → is_loud event ≡ false → AreReadyBeside program t mid.ready (scene_of mid)
+    → KnowsReady program old → concerns_others event ≡ false → AreReadyBeside program t mid.ready (scene_of mid)
 beside_kept program row t old mid event after knows quiet =
     record {
       turns = λ u apart. ap (λ (set : ReadySet). has set.turns u) after.ready ∙ (other u apart).0;
@@ -74,5 +74,5 @@ waits_kept program row t old mid event after = grind (arith, waits_row)
 
 -- at a row on registers alone the event shows no more than a turn
 pub local_kept : (program : Program) (row : Row) (t : ℕ) (old mid : StoredScene) (event : Event) → AfterCommon program row t old mid event
-    → is_local_row row ≡ true → is_loud event ≡ false
+    → is_local_row row ≡ true → concerns_others event ≡ false
 local_kept program row t old mid event after is = grind arith

@@ -18,7 +18,7 @@ use Rattle.machine_scene.specs.PhaserRows.{is_own_tree, is_past, unless_own, out
 use Rattle.machine_scene.specs.BarrierRows.{is_run_by, unless_busy, unless_runner, outcome_of_entered, outcome_of_await_at, outcome_of_barrier_row}
 use Rattle.machine_scene.specs.Waits.{outcome_of_awaited, outcome_of_phase_wait, outcome_of_release, outcome_of_barrier_wait}
 use Rattle.machine_scene.specs.Outcomes.{outcome_in_group, outcome_in, is_ready, timeout_in}
-use Rattle.machine_scene.specs.ReadySet.{is_registering, KnowsReady, AreOthersReady, interrupts, changes_tree, is_loud, changes_all}
+use Rattle.machine_scene.specs.ReadySet.{is_registering, KnowsReady, AreOthersReady, interrupts, changes_tree, concerns_others, changes_all}
 use Rattle.machine_scene.proofs.{Plain.either, ReadyThreads.ready_as_listed}
 use Rattle.machine_scene.proofs.Standings.{KeepsStandings, registration-standings, arrival-standings}
 
@@ -48,7 +48,7 @@ record Leaves (t : ℕ) (row : Row) (scene after : Scene) : Type 0 where
 -- where there is an outcome whose event isn't loud
 abbrev CalmIf : ℕ → Row → Scene → Option Outcome → Type 0
 CalmIf t row scene None = Unit {0}
-CalmIf t row scene (Some outcome) = is_loud outcome.event ≡ false → Leaves t row scene outcome.scene
+CalmIf t row scene (Some outcome) = concerns_others outcome.event ≡ false → Leaves t row scene outcome.scene
 
 -- where there is one that changes nothing for all others
 abbrev QuietIf : ℕ → Row → Scene → Option Outcome → Type 0

@@ -75,14 +75,14 @@ abbrev pub is_entry : What → Bool
 is_entry what.Enters = true
 is_entry _ = false
 
-abbrev pub is_loud : Event → Bool
-is_loud event = is_marked event.mark || is_entry event.what
+abbrev pub concerns_others : Event → Bool
+concerns_others event = is_marked event.mark || is_entry event.what
 
 -- a step at this row, with this event, may have changed for any thread whether its turn is ready
 abbrev pub changes_all : Row → Event → Bool
 changes_all (Pforce p) event = true
 changes_all (Creset b) event = true
-changes_all _ event = is_loud event
+changes_all _ event = concerns_others event
 
 -- after a step of thread t at this row, these sets of before are still right, except perhaps for the thread itself, for one
 -- that the row interrupts, and, if the row may change a tree, for those that are about to register

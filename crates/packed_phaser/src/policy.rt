@@ -4,7 +4,7 @@ ghost use Rattle.packed_phaser.specs.Policy.{ends};
 use phase_number::Phase;
 
 /// When the end of a phase terminates the phaser: what `Phaser.onAdvance` returns.
-#[derive(Clone, Copy, Debug, PartialEq, Eq)]
+#[derive(Clone, Copy, PartialEq, Eq)]
 pub enum Policy {
     /// Where no party is registered, as in Java's own `onAdvance`.
     Default,

@@ -7,7 +7,7 @@ use phase_number::Phase;
 use std::marker::Model;
 
 /// A phaser without tiers in 64 bits. The head of the crate says what its fields mean.
-#[derive(Clone, Copy, Debug, PartialEq, Eq)]
+#[derive(Clone, Copy, PartialEq, Eq)]
 pub struct Word {
     bits: u64,
 }

@@ -4,7 +4,7 @@ ghost use Rattle.phase_number.specs.Phase.{next_phase, phase_view, is_ended_view
 use std::marker::Model;
 
 /// The number of a phase, 0 to 2147483647.
-#[derive(Clone, Copy, Debug, PartialEq, Eq)]
+#[derive(Clone, Copy, PartialEq, Eq)]
 pub struct Phase {
     number: u32,
 }

@@ -4,7 +4,7 @@ use Rattle.thread_machine.specs.{declared.choice.Choice.Choice, declared.fault.S
 use Rattle.thread_machine.specs.{Execution.execution, Execution.execution_by, Step.played, Step.refusal_of}
 use Rattle.thread_machine.specs.declared.fault.StepFault.TheVariants as fault
 use Rattle.trace_text.specs.{RunText.refusal_in, Trace.refused_by, Trace.refused_of}
-use Rattle.pictures.specs.Missing.{missing_by, missing_told}
+use Rattle.pictures.specs.Missing.{missing_by, missing_of}
 
 one_more : (world : World) (choice : Choice) → (played world choice).world.choices ≡ world.choices + 1
 one_more world choice = grind arith
@@ -33,10 +33,10 @@ none_behind (_ ∷ before) = none_behind before
 told-by : (refusal : Option StepFault) (world : World) (before : List Choice) (choice : Choice) (choices : List Choice)
     → refusal ≡ refusal_of world choice → slice_get (before ++ (choice ∷ choices)) world.choices ≡ Some choice
     → (let after = (played world choice).world in let last = (execution after choices).world in
-    missing_told (option_map (refusal_in last) (refused_of after choices))
+    missing_of (option_map (refusal_in last) (refused_of after choices))
     ≡ missing_by last (slice_get (before ++ (choice ∷ choices)) last.choices))
     → (let last = (execution_by refusal world choice (λ after. execution after choices)).world in
-    missing_told (option_map (refusal_in last) (refused_by refusal world choice (λ after. refused_of after choices)))
+    missing_of (option_map (refusal_in last) (refused_by refusal world choice (λ after. refused_of after choices)))
     ≡ missing_by last (slice_get (before ++ (choice ∷ choices)) last.choices))
 told-by (Some fault.NoSuchThread) world before choice choices is next rest = grind (arith, is_none_there)
 told-by (Some fault.StepLimit) world before choice choices is next rest = grind (arith, is_there)
@@ -45,7 +45,7 @@ told-by None world before choice choices is next rest = rest
 
 -- of a run that goes on behind these choices
 pub told-missing : (choices : List Choice) (world : World) (before : List Choice) → length before ≡ world.choices
-    → (let last = (execution world choices).world in missing_told (option_map (refusal_in last) (refused_of world choices))
+    → (let last = (execution world choices).world in missing_of (option_map (refusal_in last) (refused_of world choices))
     ≡ missing_by last (slice_get (before ++ choices) last.choices))
 told-missing [] world before are = sym (ap (missing_by world) (ap (slice_get (before ++ [])) (sym are) ∙ none_behind before))
 told-missing (choice ∷ choices) world before are =

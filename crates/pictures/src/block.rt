@@ -10,7 +10,7 @@ use crate::caption::push_row;
 use crate::fitting::{push_count, shortened};
 use crate::line::{choice_line, names_line, push_line, row_of};
 use crate::pen::Pen;
-use crate::turn::{told, turn_text};
+use crate::turn::{marked_text, turn_text};
 use instruction_table::Row;
 use std::alloc::{AllocError, Global};
 use thread_machine::{Choice, Event, Machine, StepFault};
@@ -47,7 +47,7 @@ fn played_line(
         (kept_behind (mark_room pen.now.sheet) (marked pen.now.symbols.now event.now.mark) (mark_words event.now.mark))) }
 {
     let did = did(pen, choice, row, event)?;
-    let told = told(pen, event.mark)?;
+    let told = marked_text(pen, event.mark)?;
     choice_line(
         pen,
         machine,

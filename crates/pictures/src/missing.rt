@@ -1,5 +1,5 @@
 ghost use Rattle.std.specs.Prelude.{◌≡◌};
-ghost use Rattle.pictures.specs.Missing.{missing_at, missing_told};
+ghost use Rattle.pictures.specs.Missing.{missing_at, missing_of};
 ghost use Rattle.thread_machine.specs.World.{world_of};
 
 use thread_machine::{Choice, Machine, StepFault};
@@ -26,8 +26,8 @@ pub fn missing(machine: &Machine, choices: &[Choice]) -> Option<(u64, Choice)>
 }
 
 /// Returns the choice whose thread doesn't exist, and its number from 1, if a run's end names one. None if it names none.
-pub(crate) fn missing_told(end: &RunEnd) -> Option<(u64, Choice)>
-    ensures { result ≡ missing_told end.now.refused }
+pub(crate) fn missing_of(end: &RunEnd) -> Option<(u64, Choice)>
+    ensures { result ≡ missing_of end.now.refused }
 {
     match &end.refused {
         Some(refusal) if refusal.why == StepFault::NoSuchThread => {

@@ -12,7 +12,7 @@ ghost use Rattle.trace_text.specs.{Start.IsRefused, Start.is_want_of_memory, Tra
 use crate::choices::{MOST_PAGE_CHOICES, runs_in};
 use crate::escape::add_escaped;
 use crate::frame::Frame;
-use crate::missing::{Shown, missing_told};
+use crate::missing::{Shown, missing_of};
 use byte_ports::CountingSink;
 use line_reader::disassemble;
 use loader::{LoadFault, Loaded, load};
@@ -26,7 +26,7 @@ use trace_text::run_loaded;
 const MOST_TRACE: usize = 16_777_216;
 
 /// Why no picture is made.
-#[derive(Clone, Copy, Debug, PartialEq, Eq)]
+#[derive(Clone, Copy, PartialEq, Eq)]
 pub enum PageFault {
     /// The image can't be loaded. The fault is never `Memory`.
     Load(LoadFault),
@@ -88,7 +88,7 @@ fn trace_of_runs(alloc: Global, program: Loaded, runs: &[Run]) -> Result<Traced,
         Ok(end) => end,
         Err(_) => return Err(AllocError),
     };
-    let missing = missing_told(&end);
+    let missing = missing_of(&end);
     Ok(Traced { text, missing })
 }
 

@@ -133,7 +133,7 @@ fn mark_words(alloc: Global, mark: Mark) -> Result<Vec<u8>, AllocError>
 }
 
 /// Returns what a choice changed besides its own thread, as `p: phase 1`, cut to its room; no bytes if it changed nothing.
-pub fn told(pen: &Pen<'_, '_>, mark: Mark) -> Result<Vec<u8>, AllocError>
+pub fn marked_text(pen: &Pen<'_, '_>, mark: Mark) -> Result<Vec<u8>, AllocError>
     ensures { IfOk result (λ text. text.items
         ≡ kept_behind (mark_room pen.now.sheet) (marked pen.now.symbols.now mark) (mark_words mark)) }
 {

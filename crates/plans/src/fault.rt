@@ -2,7 +2,7 @@ ghost use Rattle.std.specs.Prelude.{◌≡◌};
 ghost use Rattle.plans.specs.FaultNumber.{plan_number};
 
 /// What is wrong with a word of a plan.
-#[derive(Clone, Copy, Debug, PartialEq, Eq)]
+#[derive(Clone, Copy, PartialEq, Eq)]
 pub enum PlanFaultKind {
     /// No word of a plan is spelled so.
     BadWord,
@@ -44,7 +44,7 @@ impl PlanFaultKind {
 }
 
 /// What is wrong with a plan, and its line, from 1. Of parentheses that are never closed it is the outermost one's.
-#[derive(Clone, Copy, Debug, PartialEq, Eq)]
+#[derive(Clone, Copy, PartialEq, Eq)]
 pub struct PlanFault {
     pub line: u64,
     pub kind: PlanFaultKind,

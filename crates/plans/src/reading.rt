@@ -180,7 +180,7 @@ fn expiry_named(names: &[&[u8]], name: &[u8]) -> Result<Chosen, PlanFaultKind>
 }
 
 /// Returns the turn of the thread with this name, or else its expiry if an `x` precedes the name, as in `xann`.
-fn named(names: &[&[u8]], name: &[u8]) -> Result<Chosen, PlanFaultKind>
+fn named_by(names: &[&[u8]], name: &[u8]) -> Result<Chosen, PlanFaultKind>
     requires { length names.now ≤ 64 }
     ensures { result ≡ named_by (map name_seen names.now) name.now
         (thread_named (map name_seen names.now) name.now) }
@@ -212,7 +212,7 @@ fn chosen_by(names: &[&[u8]], name: &[u8]) -> Result<Chosen, PlanFaultKind>
     requires { length names.now ≤ 64 }
     ensures { result ≡ chosen_by (map name_seen names.now) name.now }
 {
-    match named(names, name) {
+    match named_by(names, name) {
         Ok(chosen) => Ok(chosen),
         Err(why) => or_numbered(why, names.len(), name),
     }

@@ -1,5 +1,5 @@
 /// Which choice is next, if a plan leaves it open. None of these choices is idle.
-#[derive(Clone, Copy, Debug, PartialEq, Eq)]
+#[derive(Clone, Copy, PartialEq, Eq)]
 pub enum Rule {
     /// This thread, as long as it can take a turn: `ann.`
     Alone(u8),
@@ -10,14 +10,14 @@ pub enum Rule {
 }
 
 /// A thread's turn, or the expiry of its timed wait.
-#[derive(Clone, Copy, Debug, PartialEq, Eq)]
+#[derive(Clone, Copy, PartialEq, Eq)]
 pub struct Chosen {
     pub thread: u8,
     pub expiry: bool,
 }
 
 /// What a plan asks for.
-#[derive(Clone, Copy, Debug, PartialEq, Eq)]
+#[derive(Clone, Copy, PartialEq, Eq)]
 pub enum Step {
     /// This choice, so many times: `ann`, `x3`, `ann*3`
     Make { chosen: Chosen, times: u32 },
@@ -26,7 +26,7 @@ pub enum Step {
 }
 
 /// A word of a plan.
-#[derive(Clone, Copy, Debug, PartialEq, Eq)]
+#[derive(Clone, Copy, PartialEq, Eq)]
 pub enum Word {
     Step(Step),
     /// `(`

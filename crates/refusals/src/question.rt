@@ -33,7 +33,7 @@ fn number(text: &str) -> Option<u64>
 }
 
 /// Returns the place that a word gives: its number, and `asked`, which says what is counted. None if it is no number.
-fn place_told(asked: &'static str, word: &str) -> Option<Place>
+fn place_in_words(asked: &'static str, word: &str) -> Option<Place>
     ensures { MatchOption result ((place : Option Place) → IsPlace asked.now word.now place → ⊥)
         (λ place. IsPlace asked.now word.now (Some place)) }
 {
@@ -55,7 +55,7 @@ fn fitted(pattern: &[&'static str], words: &[&str]) -> Option<Option<Place>>
         [asked, ..] if is_word(asked, "..") => Some(None),
         [asked, pattern @ ..] => match words {
             [word, words @ ..] if is_place(asked) => {
-                let place = place_told(asked, word)?;
+                let place = place_in_words(asked, word)?;
                 fitted(pattern, words)?;
                 Some(Some(place))
             }

@@ -4,7 +4,7 @@ ghost use Rattle.row_code.specs.{FaultNumber.image_number, declared.image_fault.
 use std::alloc::{AllocError, AllocFailed};
 
 /// Why bytes are no image: the first fault in the order in which `read_image` checks.
-#[derive(Clone, Copy, Debug, PartialEq, Eq)]
+#[derive(Clone, Copy, PartialEq, Eq)]
 pub enum ImageFault {
     /// The bytes end before the counts, or before the end that the counts ask for.
     Short,

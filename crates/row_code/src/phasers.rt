@@ -7,7 +7,7 @@ use std::alloc::{AllocError, Global};
 use std::marker::Model;
 
 /// What a phaser's `onAdvance` returns.
-#[derive(Clone, Copy, Debug, PartialEq, Eq)]
+#[derive(Clone, Copy, PartialEq, Eq)]
 pub enum DeclaredPolicy {
     /// True if no party is left, as in Java's `Phaser`.
     Default,
@@ -20,7 +20,7 @@ pub enum DeclaredPolicy {
 }
 
 /// A phaser as a program declares it.
-#[derive(Clone, Copy, Debug, PartialEq, Eq)]
+#[derive(Clone, Copy, PartialEq, Eq)]
 pub struct DeclaredPhaser {
     /// The number of the parent, below 64. There may be no such phaser.
     pub parent: Option<u8>,

@@ -1,7 +1,7 @@
 use byte_ports::Failed;
 
 /// The sink has failed.
-#[derive(Clone, Copy, Debug, PartialEq, Eq)]
+#[derive(Clone, Copy, PartialEq, Eq)]
 pub struct WriteFault;
 
 impl From<Failed> for WriteFault {

@@ -93,7 +93,7 @@ fn fails(port: Port, failing: Port, call: u32) -> Option<u32> {
 }
 
 /// Makes the call of a case. The port `failing` fails at its own call `call`, counted from 0. The port for errors never fails.
-fn made(alloc: Global, case: &Case, failing: Port, call: u32) -> Result<Came, AllocError> {
+fn came_of(alloc: Global, case: &Case, failing: Port, call: u32) -> Result<Came, AllocError> {
     let mut file = MemorySource::new(case.file.as_bytes(), fails(Port::File, failing, call));
     let mut other = MemorySource::new(case.other, fails(Port::Other, failing, call));
     let mut output = MemorySink::new(alloc, 1000, fails(Port::Output, failing, call))?;
@@ -131,7 +131,7 @@ fn is_cut(case: &Case, came: &Came, failing: Port) -> bool {
 /// Returns whether the command of a case reports that the port `failing` failed, or else writes everything. If the first call
 /// of a port that it uses fails, it has to report this. A later one may never be made.
 fn is_right(alloc: Global, case: &Case, failing: Port, call: u32) -> bool {
-    let Ok(came) = made(alloc, case, failing, call) else {
+    let Ok(came) = came_of(alloc, case, failing, call) else {
         return false;
     };
     let is_used = failing != Port::Other || !case.other.is_empty();

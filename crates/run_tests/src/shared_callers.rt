@@ -115,7 +115,7 @@ fn a_routine_is_refused(rt: HostRuntime) {
 }
 
 /// Makes a phaser in phase 0, and its first caller: a `Party` is what a caller needs for its calls.
-fn made(alloc: Global, parties: u16) -> Result<(SharedPhaser, Party), NewFault>
+fn new_phaser(alloc: Global, parties: u16) -> Result<(SharedPhaser, Party), NewFault>
     ensures { IfOk result (λ r. (phaser_of r.1 ≡ r.0) × (r.1.known.number ≡ 0)) }
 {
     SharedPhaser::new(alloc, parties, Default, Phase::prevailing(0))
@@ -124,7 +124,7 @@ fn made(alloc: Global, parties: u16) -> Result<(SharedPhaser, Party), NewFault>
 /// Checks that no call waits on a terminated phaser: each returns the view.
 #[test]
 fn a_terminated_phaser_stays_so(rt: HostRuntime) -> Result<(), Fail> {
-    let (phaser, mut party) = made(rt.alloc(), 2)?;
+    let (phaser, mut party) = new_phaser(rt.alloc(), 2)?;
     assert!(rt; phaser.force_within(&mut party, 1) == Ok(Dead(-2147483648)));
     assert!(rt; phaser.await_advance(&rt, &mut party, 0) == -2147483648);
     assert!(rt; phaser.arrive_and_await_advance(&rt, &mut party) == Ok(-2147483648));
@@ -135,12 +135,12 @@ fn a_terminated_phaser_stays_so(rt: HostRuntime) -> Result<(), Fail> {
 /// party that isn't registered can't arrive, so it doesn't wait either.
 #[test]
 fn nobody_waits_without_need(rt: HostRuntime) -> Result<(), Fail> {
-    let (phaser, mut party) = made(rt.alloc(), 1)?;
+    let (phaser, mut party) = new_phaser(rt.alloc(), 1)?;
     assert!(rt; phaser.await_advance(&rt, &mut party, -5) == -5);
     assert!(rt; phaser.await_advance(&rt, &mut party, 3) == 0);
     assert!(rt; phaser.arrive_and_await_advance(&rt, &mut party) == Ok(1));
     assert!(rt; phaser.arrive_and_deregister(&rt, &mut party) == Counted(1));
-    let (phaser, mut stray) = made(rt.alloc(), 0)?;
+    let (phaser, mut stray) = new_phaser(rt.alloc(), 0)?;
     assert!(rt; phaser.arrive_and_await_advance(&rt, &mut stray) == Err(NotThere));
     Ok(())
 }
@@ -148,7 +148,7 @@ fn nobody_waits_without_need(rt: HostRuntime) -> Result<(), Fail> {
 /// Checks that the first caller sees what a second one has registered.
 #[test]
 fn two_callers_of_one_phaser(rt: HostRuntime) -> Result<(), Fail> {
-    let (phaser, mut first) = made(rt.alloc(), 1)?;
+    let (phaser, mut first) = new_phaser(rt.alloc(), 1)?;
     let mut second = phaser.split(&mut first);
     assert!(rt; phaser.register_within(&mut second, 2, 1) == Ok(Counted(0)));
     assert!(rt; phaser.look(&mut first).parties() == 3);
@@ -158,13 +158,13 @@ fn two_callers_of_one_phaser(rt: HostRuntime) -> Result<(), Fail> {
 /// Checks that `close` returns the packed state: two parties in phase 1 after two arrivals, in phase 0 after none.
 #[test]
 fn closed_words(rt: HostRuntime) -> Result<(), Fail> {
-    let (phaser, mut first) = made(rt.alloc(), 2)?;
+    let (phaser, mut first) = new_phaser(rt.alloc(), 2)?;
     let mut second = phaser.split(&mut first);
     assert!(rt; phaser.arrive_within(&mut first, false, 1) == Ok(Counted(0)));
     assert!(rt; phaser.arrive_within(&mut second, false, 1) == Ok(Counted(0)));
     phaser.join(&mut first, second);
     assert!(rt; phaser.close(first).raw() == 0x100020002);
-    let (phaser, first) = made(rt.alloc(), 2)?;
+    let (phaser, first) = new_phaser(rt.alloc(), 2)?;
     assert!(rt; phaser.close(first).raw() == 0x20002);
     Ok(())
 }
@@ -175,7 +175,7 @@ fn released<R: Threads + Wait + Sync>(
     alloc: Global,
     call: Call,
 ) -> Option<(i32, Option<Reply>)> {
-    let (phaser, mut first) = made(alloc, 1).ok()?;
+    let (phaser, mut first) = new_phaser(alloc, 1).ok()?;
     let mut second = phaser.split(&mut first);
     let shared = &phaser;
     let waiting = &mut first;

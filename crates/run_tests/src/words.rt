@@ -190,7 +190,7 @@ fn registration(registered: Registered) -> Answer {
 }
 
 /// Returns what `call` returns, or None if its contract forbids it: ends need a turned word, `vacate` also no parties.
-fn made(word: Word, call: Call) -> Option<Answer> {
+fn answer_of(word: Word, call: Call) -> Option<Answer> {
     match call {
         Renew(phase) => Some(Is(word.renew(Phase::prevailing(phase)).raw())),
         Advance(ends) if word.is_turned() => Some(Is(word.advance(ends).raw())),
@@ -207,7 +207,7 @@ fn made(word: Word, call: Call) -> Option<Answer> {
 fn calls_on_words(rt: HostRuntime) {
     for (number, (bits, call, wanted)) in CALLS.iter().enumerate() {
         let answered = match Word::from_raw(*bits) {
-            Some(word) => made(word, *call),
+            Some(word) => answer_of(word, *call),
             None => None,
         };
         assert!(rt; answered == Some(*wanted), "{number}");

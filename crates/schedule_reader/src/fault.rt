@@ -2,7 +2,7 @@ ghost use Rattle.std.specs.Prelude.{◌≡◌};
 ghost use Rattle.schedule_reader.specs.FaultNumber.{schedule_number};
 
 /// What is wrong with a schedule. An offset counts the stream's bytes from 0.
-#[derive(Clone, Copy, Debug, PartialEq, Eq)]
+#[derive(Clone, Copy, PartialEq, Eq)]
 pub enum ScheduleFault {
     /// A byte that isn't allowed there, or the end of a token that is incomplete.
     Byte(u64),

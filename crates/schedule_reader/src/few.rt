@@ -9,7 +9,7 @@ use crate::place::{Place, is_blank};
 use crate::run::Run;
 
 /// How many runs a schedule has, and which if it has one.
-#[derive(Clone, Copy, Debug, PartialEq, Eq)]
+#[derive(Clone, Copy, PartialEq, Eq)]
 pub enum Few {
     /// None.
     Nothing,

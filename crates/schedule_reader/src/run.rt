@@ -10,7 +10,7 @@ use thread_machine::Choice;
 const MOST_TIMES: u32 = 1_000_000_000;
 
 /// One token of a schedule: a choice, and how often it is made.
-#[derive(Clone, Copy, Debug, PartialEq, Eq)]
+#[derive(Clone, Copy, PartialEq, Eq)]
 pub struct Run {
     pub choice: Choice,
     /// 1 to 1,000,000,000.

@@ -12,7 +12,7 @@ use packed_phaser::Word;
 use std::marker::Brand;
 
 /// Every try of a call lost to a call of another caller that changed the phaser.
-#[derive(Clone, Copy, Debug, PartialEq, Eq)]
+#[derive(Clone, Copy, PartialEq, Eq)]
 pub struct Raced {
     /// How often it was tried.
     pub tries: u32,

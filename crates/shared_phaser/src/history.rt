@@ -5,7 +5,7 @@ use phase_number::Phase;
 use std::collections::LinkedList;
 
 /// A call, with its operands.
-#[derive(Clone, Copy, Debug, PartialEq, Eq)]
+#[derive(Clone, Copy, PartialEq, Eq)]
 pub enum Call {
     /// A look at the phaser, for all getters.
     Look,
@@ -20,7 +20,7 @@ pub enum Call {
 }
 
 /// The result of a call that changes the phaser or is refused.
-#[derive(Clone, Copy, Debug, PartialEq, Eq)]
+#[derive(Clone, Copy, PartialEq, Eq)]
 pub enum Reply {
     /// The call was counted in the phase of this number.
     Counted(i32),
@@ -33,7 +33,7 @@ pub enum Reply {
 }
 
 /// The result of a call.
-#[derive(Clone, Copy, Debug, PartialEq, Eq)]
+#[derive(Clone, Copy, PartialEq, Eq)]
 pub enum Answer {
     /// Of a look: the word that it found.
     Saw(Word),

@@ -59,7 +59,7 @@ impl Model for Party {
 }
 
 /// Why there is no shared phaser.
-#[derive(Clone, Copy, Debug, PartialEq, Eq)]
+#[derive(Clone, Copy, PartialEq, Eq)]
 pub enum NewFault {
     /// A routine is code of a program, which can't run within the one step that ends a phase.
     RoutinePolicy,

@@ -18,7 +18,7 @@ use std::sync::Wait;
 use std::thread::yield_now;
 
 /// No party was left that could arrive.
-#[derive(Clone, Copy, Debug, PartialEq, Eq)]
+#[derive(Clone, Copy, PartialEq, Eq)]
 pub struct NotThere;
 
 /// The most parties that are few: they may all have a processor.

@@ -1,5 +1,5 @@
 /// What happens next: a thread's turn, or the expiry of its timed wait.
-#[derive(Clone, Copy, Debug, PartialEq, Eq)]
+#[derive(Clone, Copy, PartialEq, Eq)]
 pub struct Choice {
     /// The thread's number, from 0 in the order of declaration.
     pub thread: u8,

@@ -1,5 +1,5 @@
 /// Why a choice was refused. The machine is as before.
-#[derive(Clone, Copy, Debug, PartialEq, Eq)]
+#[derive(Clone, Copy, PartialEq, Eq)]
 pub enum StepFault {
     /// There is no thread of this number.
     NoSuchThread,

@@ -2,7 +2,7 @@ ghost use Rattle.std.specs.Prelude.{◌≡◌, ◌≢◌, All, MatchOption};
 ghost use Rattle.thread_machine.specs.Standing.{name_of, names};
 
 /// Whether a program has ended, is stuck, or can go on.
-#[derive(Clone, Copy, Debug, PartialEq, Eq)]
+#[derive(Clone, Copy, PartialEq, Eq)]
 pub enum Standing {
     /// Every thread has ended or died.
     All,

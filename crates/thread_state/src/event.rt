@@ -1,12 +1,12 @@
 /// What a choice did, as a trace shows it.
-#[derive(Clone, Copy, Debug, PartialEq, Eq)]
+#[derive(Clone, Copy, PartialEq, Eq)]
 pub struct Event {
     pub what: What,
     pub mark: Mark,
 }
 
 /// What happened to the thread.
-#[derive(Clone, Copy, Debug, PartialEq, Eq)]
+#[derive(Clone, Copy, PartialEq, Eq)]
 pub enum What {
     /// It isn't ready: nothing happened.
     Idle,
@@ -33,7 +33,7 @@ pub enum What {
 }
 
 /// What the choice changed besides its own thread, if a trace shows it.
-#[derive(Clone, Copy, Debug, PartialEq, Eq)]
+#[derive(Clone, Copy, PartialEq, Eq)]
 pub enum Mark {
     Nothing,
     /// The phase of this root phaser ended, or its tree was terminated; the view after it.

@@ -4,7 +4,7 @@ ghost use Rattle.thread_state.specs.Frame.{entry_of, is_routine, is_advance};
 use instruction_table::Regs;
 
 /// An entry of a thread's stack, as the machine shows it.
-#[derive(Clone, Copy, Debug, PartialEq, Eq)]
+#[derive(Clone, Copy, PartialEq, Eq)]
 pub enum Entry {
     /// A call. The number is the row that it returns to.
     Call(u16),

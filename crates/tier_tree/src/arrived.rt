@@ -1,7 +1,7 @@
 use crate::id::PhaserId;
 
 /// The result of an arrival.
-#[derive(Clone, Copy, Debug, PartialEq, Eq)]
+#[derive(Clone, Copy, PartialEq, Eq)]
 pub enum Arrived {
     /// Others are still to arrive; the number of the phase that the arrival was counted in.
     At(i32),

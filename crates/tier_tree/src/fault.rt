@@ -2,7 +2,7 @@ ghost use Rattle.std.specs.Prelude.{◌≡◌};
 ghost use Rattle.tier_tree.specs.Declaration.{fault_number};
 
 /// Why a declaration is refused.
-#[derive(Clone, Copy, Debug, PartialEq, Eq)]
+#[derive(Clone, Copy, PartialEq, Eq)]
 pub enum DeclareFault {
     /// The parties are below 0 or above 65535.
     BadParties,

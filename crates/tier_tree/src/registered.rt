@@ -1,5 +1,5 @@
 /// The result of a registration.
-#[derive(Clone, Copy, Debug, PartialEq, Eq)]
+#[derive(Clone, Copy, PartialEq, Eq)]
 pub enum Registered {
     /// The parties are registered; the number of the phase that they joined.
     At(i32),

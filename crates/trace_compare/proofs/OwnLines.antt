@@ -9,7 +9,7 @@ use Rattle.line_reader.specs.Words.{is_line_end}
 use Rattle.thread_machine.specs.{declared.choice.Choice.Choice, Step.played, World.world_of}
 use Rattle.trace_compare.specs.declared.comparison.Comparison.{Comparison}
 use Rattle.trace_compare.specs.Compare.{choices_in, line_at, lines_verdict, otherwise}
-use Rattle.trace_compare.specs.Comparing.{GoesOver, IsReading, bytes_left, line_ends, line_played, lines_left, told_left}
+use Rattle.trace_compare.specs.Comparing.{GoesOver, IsReading, bytes_left, line_ends, line_played, lines_left, reported_left}
 use Rattle.trace_text.specs.{Reading.choice_in, Reading.is_state_line, Reading.NamesBehind, Lines.choice_text}
 use Rattle.trace_text.specs.Trace.{Plays, lines_of}
 use Rattle.trace_text.proofs.{Naming.choice-part, Naming.line-no_state, Naming.line_names, WholeLines.no_end}
@@ -66,7 +66,7 @@ met before after choice text bytes count reading still next text_is at_is few th
           ap (λ bs. bs ++ more)
           (sym (take-append-drop (length text) bytes) ∙ ap (λ t. t ++ drop (length text) bytes) (same ∙ whole))
           ∙ append_assoc (own.line ++ 10 ∷ []) (drop (length text) bytes) more in
-          ap (told_left before) (ap (slice_split is_line_end) all ∙ whole-line own.line rest (no_end own.line own.within))
+          ap (reported_left before) (ap (slice_split is_line_end) all ∙ whole-line own.line rest (no_end own.line own.within))
           ∙ told-met before after own.line lines (no_end own.line own.within) (omega (arith, length-slice_split is_line_end rest)) next
           (left-lines before (own.line ∷ lines) reading.0
           ∙ lines-choice before.accepted world before.number own.line lines own.no_state
@@ -137,14 +137,14 @@ missed before after choice text bytes more reading still none lost kept same few
     → lines_left now (line ∷ lines) ≡ otherwise now.number line = λ now state not.
     left-lines now (line ∷ lines) state ∙ lines-choice now.accepted (world_of now.machine) now.number line lines no_state
     ∙ choice-other (choice_in line) choice now.accepted (world_of now.machine) now.number line _ names not in
-    ap (told_left before) split
+    ap (reported_left before) split
     ∙ told-alike before after line lines before.number refl same
     (made before reading.0 (ap (λ a. a && bytes_eq (line ++ (10 ∷ [])) (lines_of world (choice ∷ []))) reading.1 ∙ differs))
     (made after still (ap (λ a. a && bytes_eq (line ++ (10 ∷ [])) (lines_of (world_of after.machine) (choice ∷ []))) none)
     ∙ ap (λ n. otherwise n line) same)
     (ap (line_at 0) (text-choice before choice line lines reading.0 reading.1 no_state names) ∙ first-own world choice (choices_in lines)
     ∙ ap (line_at 0) (text_is ∙ sym kept ∙ sym (text-missed after line lines still none lost no_state)))
-    ∙ sym (ap (told_left after) split)
+    ∙ sym (ap (reported_left after) split)
 
 -- bytes that begin with a number begin with the whole line where they go on as it does
 pub begun_whole : (number rest bytes : List ℕ) → take (length number) bytes ≡ number

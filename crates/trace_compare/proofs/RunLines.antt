@@ -10,7 +10,7 @@ use Rattle.thread_machine.specs.{declared.choice.Choice.Choice, declared.fault.S
 use Rattle.thread_machine.specs.declared.fault.StepFault.TheVariants.{NoSuchThread, StepLimit}
 use Rattle.trace_compare.specs.declared.comparison.{Comparison.Comparison, Verdict.Verdict}
 use Rattle.trace_compare.specs.Compare.{choice_verdict, choices_in, line_at, line_by, lines_verdict, otherwise, state_verdict}
-use Rattle.trace_compare.specs.Comparing.{HasEndedBehind, MeetsText, lines_left, line_kept, text_left, told_by, told_left}
+use Rattle.trace_compare.specs.Comparing.{HasEndedBehind, MeetsText, lines_left, line_kept, text_left, reported_by, reported_left}
 use Rattle.trace_compare.specs.declared.comparison.Verdict.TheVariants as verdict
 use Rattle.trace_text.specs.Reading.{after_line, choice_in, first_line, is_state_line, is_too_long}
 use Rattle.trace_text.specs.{State.state_text, Trace.Plays, Trace.lines_by, Trace.lines_of, Trace.trace_of}
@@ -96,9 +96,9 @@ late_left now lines m some is = by now.is_state is
 -- ---- what is told
 
 -- by a verdict and the line
-told_as : (now : Comparison) (lines : List (List ℕ)) (v : Verdict) (line : Option (List ℕ)) → lines_left now lines ≡ v
-    → line_by v now.number (text_left now lines) ≡ line → told_left now lines ≡ record { verdict = v; line = line }
-told_as now lines v line is line_is = grind arith
+refusal_reported : (now : Comparison) (lines : List (List ℕ)) (v : Verdict) (line : Option (List ℕ)) → lines_left now lines ≡ v
+    → line_by v now.number (text_left now lines) ≡ line → reported_left now lines ≡ record { verdict = v; line = line }
+refusal_reported now lines v line is line_is = grind arith
 
 behind_line : (v : Verdict) (first next : ℕ) (line text rest : List ℕ) → IsOneLine line → next ≡ first + 1
     → ((m : ℕ) → v ≡ verdict.Differs m → next ≤ m) → text ≡ (line ++ 10 ∷ []) ++ rest → line_by v first text ≡ line_by v next rest
@@ -111,31 +111,31 @@ behind_line v first next line text rest one next_is late is = refl
 -- a line that is the run's
 pub told-met : (before after : Comparison) (line : List ℕ) (lines : List (List ℕ)) → IsOneLine line → 0 < length lines
     → after.number ≡ before.number + 1 → lines_left before (line ∷ lines) ≡ lines_left after lines
-    → MeetsText before after line lines None → told_left before (line ∷ lines) ≡ told_left after lines
-told-met before after line lines one some next same meets = search (rules, told_as, behind_line, late_left)
+    → MeetsText before after line lines None → reported_left before (line ∷ lines) ≡ reported_left after lines
+told-met before after line lines one some next same meets = search (rules, refusal_reported, behind_line, late_left)
 
 -- one that isn't
 pub told-other : (before after : Comparison) (line : List ℕ) (lines : List (List ℕ)) (v : Verdict)
-    → lines_left before (line ∷ lines) ≡ v → MeetsText before after line lines (Some v) → told_left before (line ∷ lines) ≡ told_by v after
+    → lines_left before (line ∷ lines) ≡ v → MeetsText before after line lines (Some v) → reported_left before (line ∷ lines) ≡ reported_by v after
 told-other before after line lines (verdict.Differs n) is (here, kept) =
     let first : n - before.number ≡ 0 = omega (arith, here) in
-    told_as before (line ∷ lines) (verdict.Differs n) (line_kept after) is
+    refusal_reported before (line ∷ lines) (verdict.Differs n) (line_kept after) is
     (ap (λ k. line_at k (text_left before (line ∷ lines))) first ∙ kept)
-told-other before after line lines v is meets = grind (arith, told_as)
+told-other before after line lines v is meets = grind (arith, refusal_reported)
 
 -- the last one
 pub told-ended : (before after last : Comparison) (line : List ℕ) (v : Verdict) → after.number ≡ before.number + 1
     → lines_left before (line ∷ []) ≡ v → MeetsText before after line [] None → HasEndedBehind after last line v
-    → told_left before (line ∷ []) ≡ told_by v last
+    → reported_left before (line ∷ []) ≡ reported_by v last
 told-ended before after last line v next is meets kept = grind arith
 
 -- two comparisons to which the same line is another one
 pub told-alike : (a b : Comparison) (line : List ℕ) (lines : List (List ℕ)) (n : ℕ) → a.number ≡ n → b.number ≡ n
     → lines_left a (line ∷ lines) ≡ otherwise n line → lines_left b (line ∷ lines) ≡ otherwise n line
-    → line_at 0 (text_left a (line ∷ lines)) ≡ line_at 0 (text_left b (line ∷ lines)) → told_left a (line ∷ lines) ≡ told_left b (line ∷ lines)
+    → line_at 0 (text_left a (line ∷ lines)) ≡ line_at 0 (text_left b (line ∷ lines)) → reported_left a (line ∷ lines) ≡ reported_left b (line ∷ lines)
 told-alike a b line lines n a_is b_is one two same =
-    told_as a (line ∷ lines) (otherwise n line) _ one (by (is_too_long line))
-    ∙ sym (told_as b (line ∷ lines) (otherwise n line) _ two refl)
+    refusal_reported a (line ∷ lines) (otherwise n line) _ one (by (is_too_long line))
+    ∙ sym (refusal_reported b (line ∷ lines) (otherwise n line) _ two refl)
   where
     by : (long : Bool) → line_by (cond long (verdict.NotATrace n) (verdict.Differs n)) a.number (text_left a (line ∷ lines))
         ≡ line_by (cond long (verdict.NotATrace n) (verdict.Differs n)) b.number (text_left b (line ∷ lines))

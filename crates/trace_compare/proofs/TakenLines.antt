@@ -7,7 +7,7 @@ use Rattle.byte_ports.specs.declared.source_lines.LineEnded.{LineEnded}
 use Rattle.byte_ports.specs.declared.source_lines.LineEnded.TheVariants as how
 use Rattle.trace_compare.specs.declared.comparison.{Comparison.Comparison, Verdict.Verdict}
 use Rattle.trace_compare.specs.{Compare.IsReadNoFurther, Compare.IsReadUpTo, NamedLines.none_read}
-use Rattle.trace_compare.specs.Comparing.{GoesOver, HasComeTo, HasJudged, HasLeft, bytes_left, told_by}
+use Rattle.trace_compare.specs.Comparing.{GoesOver, HasComeTo, HasJudged, HasLeft, bytes_left, reported_by}
 use Rattle.trace_compare.proofs.{NamedLines.unread, OwnLines.ends-append, OwnLines.ends-behind, OwnLines.ends-line}
 
 read-more : (n m : ℕ) (a b : Option (List ℕ)) → n ≤ m → IsReadUpTo n a b → IsReadUpTo m a b
@@ -109,7 +109,7 @@ pub come-verdict : {first now : Comparison} (next : Comparison) {x : Lines} (y :
     (c : Option (List ℕ)) (ended : LineEnded) (line : List ℕ) (v : Verdict) → HasComeTo first now x turns a b → HasJudged now next ended line (Some v)
     → Consumes (prepend_known x.held b) (prepend_known y.held c) (taken (Ok ended) line)
     → (got : List ℕ) × (taken (Ok ended) line ++ y.held ≡ x.held ++ got) → HasCome ended line (prepend_known y.held c)
-    → (ended ≡ how.AtEnd → y.held ≡ []) → (bytes : List ℕ) × (Consumes a c bytes × HasLeft first bytes c (told_by v next))
+    → (ended ≡ how.AtEnd → y.held ≡ []) → (bytes : List ℕ) × (Consumes a c bytes × HasLeft first bytes c (reported_by v next))
 come-verdict {first} {now} next {x} y {turns} {a} {b} c ended line v come judged gone (got, is) came all =
     let bytes = taken (Ok ended) line in (
       (come.bytes ++ bytes) ++ y.held,
@@ -122,7 +122,7 @@ come-verdict {first} {now} next {x} y {turns} {a} {b} c ended line v come judged
   where
     by : (ended : LineEnded) → HasJudged now next ended line (Some v) → taken (Ok ended) line ++ y.held ≡ x.held ++ got
         → HasCome ended line (prepend_known y.held c) → (ended ≡ how.AtEnd → y.held ≡ [])
-        → HasLeft first ((come.bytes ++ taken (Ok ended) line) ++ y.held) c (told_by v next)
+        → HasLeft first ((come.bytes ++ taken (Ok ended) line) ++ y.held) c (reported_by v next)
     by how.Whole (stands, judged) is came all =
         inr (λ rest. ap (bytes_left first) (append_assoc (come.bytes ++ (line ++ 10 ∷ [])) y.held rest)
         ∙ left-behind first now x y turns a b (line ++ 10 ∷ []) got rest come is ∙ judged (y.held ++ rest))

@@ -4,8 +4,8 @@ use Rattle.std.proofs.{Math.Seq.drop-append_seam, Math.Seq.take-append_seam, lem
 use Rattle.std.proofs.lemmas.{Bool.and_from, Bool.and_parts, Bool.cases_lt, Bool.false_from_ne_true, Slice.Eq.bytes_eq-Decides}
 use Rattle.std.proofs.lemmas.List.Splits.{slice_split_none, length-slice_split}
 use Rattle.trace_compare.specs.declared.comparison.{Comparison.Comparison, Verdict.Verdict}
-use Rattle.trace_compare.specs.Comparing.{HasCounted, HasJudged, HasLeft, IsOpen, MeetsText, StandsFrom, bytes_left, decided, lines_left, text_left, told_by, told_left}
-use Rattle.trace_compare.specs.Compare.{HasCompared, HasShown, HasTold, IsReadNoFurther, Told, choice_verdict, line_by, lines_verdict, otherwise, state_verdict, told_of}
+use Rattle.trace_compare.specs.Comparing.{HasCounted, HasJudged, HasLeft, IsOpen, MeetsText, StandsFrom, bytes_left, decided, lines_left, text_left, reported_by, reported_left}
+use Rattle.trace_compare.specs.Compare.{HasCompared, HasShown, HasReported, IsReadNoFurther, Reported, choice_verdict, line_by, lines_verdict, otherwise, state_verdict, reported_of}
 use Rattle.std.specs.{List.position_or_len, List.slice_split, Str.bytes_eq, Io.KnownBytes.Consumes}
 use Rattle.byte_ports.specs.SourceLines.{IsOneLine}
 use Rattle.byte_ports.specs.declared.source_lines.LineEnded.TheVariants as how
@@ -124,15 +124,15 @@ judged-whole (Ok (Some v)) before after line one same meets counted = (
   λ rest.
       let lines = slice_split is_line_end rest in
       let some : 0 < length lines = omega (arith, length-slice_split is_line_end rest) in
-      ap (told_left before) (whole-line line rest one)
+      ap (reported_left before) (whole-line line rest one)
       ∙ told-other before after line lines v (same lines (λ state. omega (arith, some))) (meets lines),
 )
 judged-whole (Err e) before after line one same meets counted = tt
 
 -- what is left at the end
-pub judged-last : (now after : Comparison) (line : List ℕ) (v : Verdict) → IsOneLine line → told_left now (line ∷ []) ≡ told_by v after
+pub judged-last : (now after : Comparison) (line : List ℕ) (v : Verdict) → IsOneLine line → reported_left now (line ∷ []) ≡ reported_by v after
     → (v ≡ verdict.Same) ⊎ StandsFrom now.number v → HasJudged now after how.AtEnd line (Some v)
-judged-last now after line v one is stands = (stands, ap (told_left now) (slice_split_none is_line_end line one) ∙ is)
+judged-last now after line v one is stands = (stands, ap (reported_left now) (slice_split_none is_line_end line one) ∙ is)
 
 -- by whether it is of the state
 long_by : (state : Bool) (x y v : Verdict) → x ≡ v → y ≡ v → cond state x y ≡ v
@@ -141,7 +141,7 @@ long_by false x y v a b = b
 
 -- what is no line of a trace
 pub told-nothing : (now after : Comparison) (lines : List (List ℕ)) (n : ℕ) → lines_left now lines ≡ verdict.NotATrace n
-    → told_left now lines ≡ told_by (verdict.NotATrace n) after
+    → reported_left now lines ≡ reported_by (verdict.NotATrace n) after
 told-nothing now after lines n is = ap (λ (v : Verdict). record { verdict = v; line = line_by v now.number (text_left now lines) }) is
 
 and_no : (a b : Bool) → b ≡ false → (a && b) ≡ false
@@ -186,7 +186,7 @@ too_long now after line one short many = (
   λ rest.
       let (h, (t, is)) = begun-line line rest one in
       let longer : 65536 < length (line ++ h) = omega (arith, length-append line h, many) in
-      ap (told_left now) is
+      ap (reported_left now) is
       ∙ told-nothing now after ((line ++ h) ∷ t) now.number
       (long_by now.is_state _ _ (verdict.NotATrace now.number)
       (long_state (drop now.at now.text.items) now.number (line ++ h) t (short now.at) longer)
@@ -195,37 +195,37 @@ too_long now after line one short many = (
 
 -- a comparison that begins, by its parts
 left-first : (now : Comparison) (machine : StoredWorld) (bytes : List ℕ) → now.machine ≡ machine → now.accepted ≡ true
-    → now.is_state ≡ false → now.number ≡ 1 → bytes_left now bytes ≡ told_of (world_of machine) bytes
+    → now.is_state ≡ false → now.number ≡ 1 → bytes_left now bytes ≡ reported_of (world_of machine) bytes
 left-first now machine bytes machine_is accepted_is state_is number_is = grind arith
 
-told-first : (now : Comparison) (machine : StoredWorld) (bytes : List ℕ) (left : Option (List ℕ)) (told : Told)
-    → ((rest : List ℕ) → bytes_left now rest ≡ told_of (world_of machine) rest)
-    → HasLeft now bytes left told → HasTold (world_of machine) bytes left told
+told-first : (now : Comparison) (machine : StoredWorld) (bytes : List ℕ) (left : Option (List ℕ)) (told : Reported)
+    → ((rest : List ℕ) → bytes_left now rest ≡ reported_of (world_of machine) rest)
+    → HasLeft now bytes left told → HasReported (world_of machine) bytes left told
 told-first now machine bytes left told same given = grind arith
 
 -- of an image whose program begins in that world
 pub told-all : (image : Image) (now last : Comparison) (machine : StoredWorld) (v : Verdict) (before after : Option (List ℕ))
     → Begins image (world_of machine) → now.machine ≡ machine
     → (now.accepted ≡ true) × (now.is_state ≡ false) → now.number ≡ 1
-    → (bytes : List ℕ) × (Consumes before after bytes × HasLeft now bytes after (told_by v last))
-    → HasShown image before after (told_by v last)
+    → (bytes : List ℕ) × (Consumes before after bytes × HasLeft now bytes after (reported_by v last))
+    → HasShown image before after (reported_by v last)
 told-all image now last machine v before after begins machine_is start number_is (bytes, (consumed, left)) =
     let same = λ (rest : List ℕ). left-first now machine rest machine_is start.0 start.1 number_is in
-    (world_of machine, (bytes, (begins, consumed, told-first now machine bytes after (told_by v last) same left)))
+    (world_of machine, (bytes, (begins, consumed, told-first now machine bytes after (reported_by v last) same left)))
 
 -- its verdict is the one that was found
-verdict-by : (v : Verdict) (last : Comparison) → (told_by v last).verdict ≡ v
+verdict-by : (v : Verdict) (last : Comparison) → (reported_by v last).verdict ≡ v
 verdict-by verdict.Same last = refl
 verdict-by (verdict.Differs n) last = refl
 verdict-by (verdict.NotATrace n) last = refl
 
 pub judged-so : (image : Image) (v : Verdict) (last : Comparison) (before after : Option (List ℕ))
-    → HasShown image before after (told_by v last) → IsReadNoFurther before after v
-    → HasShown image before after (told_by v last) × IsReadNoFurther before after (told_by v last).verdict
+    → HasShown image before after (reported_by v last) → IsReadNoFurther before after v
+    → HasShown image before after (reported_by v last) × IsReadNoFurther before after (reported_by v last).verdict
 judged-so image v last before after shown far = (shown, subst (IsReadNoFurther before after) (sym (verdict-by v last)) far)
 
 -- the verdict alone
-pub compared : (image : Image) (told : Told) (v : Verdict) (before after : Option (List ℕ)) → v ≡ told.verdict
+pub compared : (image : Image) (told : Reported) (v : Verdict) (before after : Option (List ℕ)) → v ≡ told.verdict
     → HasShown image before after told × IsReadNoFurther before after told.verdict
     → HasCompared image before after v × IsReadNoFurther before after v
 compared image told v before after is given = grind arith

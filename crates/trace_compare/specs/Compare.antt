@@ -76,13 +76,13 @@ line_by (verdict.Differs n) first text = line_at (n - first) text
 line_by v first text = None
 
 -- what is reported about a trace: the verdict, and the run's line where the trace's line differs, if the run has one there
-pub record Told : Type 0 where
+pub record Reported : Type 0 where
   pub verdict : Verdict
   pub line : Option (List ℕ)
 
 -- the same for a whole trace: the run's line comes from the trace of the choices that the lines name
-abbrev pub told_of : World → List ℕ → Told
-told_of world trace =
+abbrev pub reported_of : World → List ℕ → Reported
+reported_of world trace =
     let v = verdict_of world trace in
     record { verdict = v; line = line_by v 1 (trace_of world (choices_of_trace trace)) }
 
@@ -98,14 +98,14 @@ HasCompared image before after v =
     × (Begins image world × Consumes before after bytes × HasVerdict world bytes after v))
 
 -- the same for what is reported
-abbrev pub HasTold : World → List ℕ → Option (List ℕ) → Told → Type 0
-HasTold world bytes left told =
-    (IsAtEnd left × (told_of world bytes ≡ told)) ⊎ ((rest : List ℕ) → told_of world (bytes ++ rest) ≡ told)
+abbrev pub HasReported : World → List ℕ → Option (List ℕ) → Reported → Type 0
+HasReported world bytes left told =
+    (IsAtEnd left × (reported_of world bytes ≡ told)) ⊎ ((rest : List ℕ) → reported_of world (bytes ++ rest) ≡ told)
 
-abbrev pub HasShown : Image → Option (List ℕ) → Option (List ℕ) → Told → Type 0
+abbrev pub HasShown : Image → Option (List ℕ) → Option (List ℕ) → Reported → Type 0
 HasShown image before after told =
     (world : World) × ((bytes : List ℕ)
-    × (Begins image world × Consumes before after bytes × HasTold world bytes after told))
+    × (Begins image world × Consumes before after bytes × HasReported world bytes after told))
 
 -- no line after this one was read whole, except those that came in one piece with its end
 abbrev pub IsReadUpTo : ℕ → Option (List ℕ) → Option (List ℕ) → Type 0
@@ -121,7 +121,7 @@ IsReadNoFurther before after (verdict.NotATrace line) = IsReadUpTo line before a
 
 -- what is reported, and the line of the trace that the verdict names, if it has one
 pub record Judgement : Type 0 where
-  pub told : Told
+  pub told : Reported
   pub trace : Option (List ℕ)
 
 -- why there is no verdict: the image can't be loaded, for a reason other than memory, and nothing was read; or it is out of

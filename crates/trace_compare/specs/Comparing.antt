@@ -6,7 +6,7 @@ use Rattle.byte_ports.specs.declared.source_lines.LineEnded.TheVariants as how
 use Rattle.line_reader.specs.Words.{is_line_end}
 use Rattle.thread_machine.specs.World.{world_of}
 use Rattle.trace_compare.specs.declared.comparison.{Comparison.Comparison, Verdict.Verdict}
-use Rattle.trace_compare.specs.Compare.{IsReadUpTo, Told, choices_in, line_at, line_by, lines_verdict, state_verdict}
+use Rattle.trace_compare.specs.Compare.{IsReadUpTo, Reported, choices_in, line_at, line_by, lines_verdict, state_verdict}
 use Rattle.trace_compare.specs.NamedLines.{HasGone, none_read}
 use Rattle.trace_compare.specs.declared.comparison.Verdict.TheVariants as verdict
 use Rattle.trace_text.specs.{Reading.is_state_line, State.state_text, Trace.trace_of}
@@ -35,8 +35,8 @@ text_left now lines =
     else (if now.missed && not (is_state_first lines) then now.expected else state_text (world_of now.machine)))
 
 -- what is reported, by the remaining lines
-abbrev pub told_left : Comparison → List (List ℕ) → Told
-told_left now lines =
+abbrev pub reported_left : Comparison → List (List ℕ) → Reported
+reported_left now lines =
     let v = lines_left now lines in record { verdict = v; line = line_by v now.number (text_left now lines) }
 
 -- the run's line of the choice that was just played, if its number is kept beside it
@@ -50,9 +50,9 @@ line_kept now =
     else (if now.accepted || now.missed then now.expected else state_text (world_of now.machine)))
 
 -- what is reported with it
-abbrev pub told_by : Verdict → Comparison → Told
-told_by (verdict.Differs n) now = record { verdict = verdict.Differs n; line = line_kept now }
-told_by v now = record { verdict = v; line = None }
+abbrev pub reported_by : Verdict → Comparison → Reported
+reported_by (verdict.Differs n) now = record { verdict = verdict.Differs n; line = line_kept now }
+reported_by v now = record { verdict = v; line = None }
 
 -- whether a line that ended so is one: an empty rest after the last LF isn't
 abbrev pub is_one : LineEnded → List ℕ → Bool
@@ -91,8 +91,8 @@ IsOpen now line lines =
     now.is_state ≡ true → 0 < length (drop now.at now.text.items) + (length line + length lines)
 
 -- what the remaining bytes lead to
-abbrev pub bytes_left : Comparison → List ℕ → Told
-bytes_left now bytes = told_left now (slice_split is_line_end bytes)
+abbrev pub bytes_left : Comparison → List ℕ → Reported
+bytes_left now bytes = reported_left now (slice_split is_line_end bytes)
 
 -- how many lines end in these bytes
 abbrev pub line_ends : List ℕ → ℕ
@@ -128,14 +128,14 @@ HasJudged before after ended line None =
     (ended ≡ how.Whole) × (after.number ≡ before.number + 1)
     × ((rest : List ℕ) → bytes_left before ((line ++ 10 ∷ []) ++ rest) ≡ bytes_left after rest)
 HasJudged before after how.Whole line (Some v) =
-    StandsFrom before.number v × ((rest : List ℕ) → bytes_left before ((line ++ 10 ∷ []) ++ rest) ≡ told_by v after)
+    StandsFrom before.number v × ((rest : List ℕ) → bytes_left before ((line ++ 10 ∷ []) ++ rest) ≡ reported_by v after)
 HasJudged before after how.AtEnd line (Some v) =
-    ((v ≡ verdict.Same) ⊎ StandsFrom before.number v) × (bytes_left before line ≡ told_by v after)
+    ((v ≡ verdict.Same) ⊎ StandsFrom before.number v) × (bytes_left before line ≡ reported_by v after)
 HasJudged before after how.TooLong line (Some v) =
-    StandsFrom before.number v × ((rest : List ℕ) → bytes_left before (line ++ rest) ≡ told_by v after)
+    StandsFrom before.number v × ((rest : List ℕ) → bytes_left before (line ++ rest) ≡ reported_by v after)
 
 -- these bytes report this: the trace ends with them, or whatever comes after them makes no difference
-abbrev pub HasLeft : Comparison → List ℕ → Option (List ℕ) → Told → Type 0
+abbrev pub HasLeft : Comparison → List ℕ → Option (List ℕ) → Reported → Type 0
 HasLeft now bytes left told =
     (IsAtEnd left × (bytes_left now bytes ≡ told)) ⊎ ((rest : List ℕ) → bytes_left now (bytes ++ rest) ≡ told)
 

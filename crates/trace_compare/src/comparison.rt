@@ -5,7 +5,7 @@ ghost use Rattle.byte_ports.specs.SourceLines.{HasCome, IsOneLine};
 ghost use Rattle.thread_machine.specs.World.{world_of};
 ghost use Rattle.trace_text.specs.{RunText.GivesOnAndOn, Reading.HasNoLongLine, Reading.choice_in, Reading.is_state_line};
 ghost use Rattle.trace_compare.specs.Compare.{IsReadNoFurther, choice_verdict, line_at, lines_verdict, state_verdict};
-ghost use Rattle.trace_compare.specs.Comparing.{GoesOver, HasCounted, HasEndedBehind, HasJudged, HasLeft, IsOpen, IsReading, MeetsText, StandsBehind, StandsFrom, decided, is_one, line_kept, line_played, lines_left, names_line, told_by, told_left};
+ghost use Rattle.trace_compare.specs.Comparing.{GoesOver, HasCounted, HasEndedBehind, HasJudged, HasLeft, IsOpen, IsReading, MeetsText, StandsBehind, StandsFrom, decided, is_one, line_kept, line_played, lines_left, names_line, reported_by, reported_left};
 ghost use Rattle.trace_compare.specs.NamedLines.{none_read};
 
 use crate::naming::MOST_LINES;
@@ -25,7 +25,7 @@ use trace_text::trace_line::{choice_in, is_state_line};
 const MOST_OWN: usize = 120;
 
 /// The result of comparing a trace.
-#[derive(Clone, Copy, Debug, PartialEq, Eq)]
+#[derive(Clone, Copy, PartialEq, Eq)]
 pub enum Verdict {
     /// The trace is that of the choices that its lines name.
     Same,
@@ -36,7 +36,7 @@ pub enum Verdict {
 }
 
 /// Why a trace isn't compared.
-#[derive(Clone, Copy, Debug, PartialEq, Eq)]
+#[derive(Clone, Copy, PartialEq, Eq)]
 pub enum CompareFault {
     /// The image can't be loaded. The fault is never `Memory`.
     Load(LoadFault),
@@ -301,7 +301,7 @@ impl Comparison {
         requires few { length line.now ≤ 65536 }
         requires one { IsOneLine line.now }
         requires at { self.old.at ≤ length self.old.text.items }
-        ensures told { IfOk result (λ verdict. told_left self.old (line.now ∷ []) ≡ told_by verdict self.new) }
+        ensures told { IfOk result (λ verdict. reported_left self.old (line.now ∷ []) ≡ reported_by verdict self.new) }
         ensures at { self.new.at ≤ length self.new.text.items }
         ensures stands { IfOk result (λ verdict. (verdict ≡ Verdict.Same) ⊎ StandsFrom self.old.number verdict) }
     {
@@ -410,7 +410,7 @@ pub(crate) fn compare_lines<S: Source>(
     requires lines { lines.old ≡ none_read }
     ensures verdict { IfOk result (λ found. (bytes : List ℕ)
         × (Consumes (S.left trace.old) (S.left trace.new) bytes
-        × HasLeft now.old bytes (S.left trace.new) (told_by found.0 now.new))) }
+        × HasLeft now.old bytes (S.left trace.new) (reported_by found.0 now.new))) }
     ensures at { OnOk result (now.new.at ≤ length now.new.text.items) }
     ensures far { IfOk result (λ found. IsReadNoFurther (S.left trace.old) (S.left trace.new) found.0) }
     ensures read { result ≡ Err CompareFault.Read → IsTrue (S.has_failed trace.new)

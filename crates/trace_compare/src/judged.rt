@@ -22,12 +22,12 @@ pub struct Judged {
 
 impl Model for Judged {
     ghost use Rattle.std.specs.Prelude.{◌≤◌, None, Some, if◌then◌else◌, length};
-    ghost use Rattle.trace_compare.specs.{Compare.Judgement, Comparing.told_by};
+    ghost use Rattle.trace_compare.specs.{Compare.Judgement, Comparing.reported_by};
 
     ghost Value = { Judgement };
 
     ghost view = { λ judged. record {
-      told = told_by judged.verdict judged.run;
+      told = reported_by judged.verdict judged.run;
       trace = if judged.is_read then Some judged.lines.line else None;
     } };
 

@@ -10,7 +10,7 @@ use trace_text::trace_line::{choice_in, is_state_line};
 const MOST_BYTES: usize = 65_536;
 
 /// What a line names.
-#[derive(Clone, Copy, Debug, PartialEq, Eq)]
+#[derive(Clone, Copy, PartialEq, Eq)]
 pub enum LineNames {
     /// A choice.
     Made(Choice),

@@ -16,7 +16,7 @@ use thread_machine::Choice;
 pub const MOST_LINES: u64 = 1_000_000_000_001;
 
 /// What the next line of a trace names.
-#[derive(Clone, Copy, Debug, PartialEq, Eq)]
+#[derive(Clone, Copy, PartialEq, Eq)]
 pub enum NextName {
     /// A choice, and a line follows, perhaps an empty one.
     Made(Choice),
@@ -38,7 +38,7 @@ pub enum Named {
 }
 
 /// Why a trace's choices aren't known.
-#[derive(Clone, Copy, Debug, PartialEq, Eq)]
+#[derive(Clone, Copy, PartialEq, Eq)]
 pub enum NamingFault {
     /// Out of memory.
     Memory,

@@ -14,7 +14,7 @@ use thread_machine::Choice;
 use trace_text::LineEnd;
 
 /// Why a schedule isn't written, or not to its end.
-#[derive(Clone, Copy, Debug, PartialEq, Eq)]
+#[derive(Clone, Copy, PartialEq, Eq)]
 pub enum WritingFault {
     /// Out of memory.
     Memory,
@@ -141,15 +141,15 @@ pub fn write_choices<S: Source, K: Sink>(
                 Ok(run) => last = Some(run),
                 Err(_) => return Err(WritingFault::Write),
             },
-            Ok(NextName::State) => return ended(end(last, true, output, &mut line), None),
+            Ok(NextName::State) => return result_of(end(last, true, output, &mut line), None),
             Ok(NextName::NotATrace) => {
-                return ended(end(last, false, output, &mut line), Some(before + 1));
+                return result_of(end(last, false, output, &mut line), Some(before + 1));
             }
             Ok(NextName::CutOff(choice)) => {
                 let Ok(run) = take(last, choice, output, &mut line) else {
                     return Err(WritingFault::Write);
                 };
-                return ended(end(Some(run), false, output, &mut line), Some(before + 2));
+                return result_of(end(Some(run), false, output, &mut line), Some(before + 2));
             }
             Err(_) => return Err(WritingFault::Read),
         }
@@ -158,7 +158,7 @@ pub fn write_choices<S: Source, K: Sink>(
 }
 
 /// Returns `no_line`, the number of the first wrong line, if any; or the fault `Write` if the end wasn't written.
-fn ended(written: Result<(), Failed>, no_line: Option<u64>) -> Result<Option<u64>, WritingFault>
+fn result_of(written: Result<(), Failed>, no_line: Option<u64>) -> Result<Option<u64>, WritingFault>
     ensures ok { OnOk result (written ≡ Ok tt) }
     ensures value { IfOk result (λ answer. answer ≡ no_line) }
     ensures err { IfErr result (λ fault. (fault ≡ WritingFault.Write) × IsErr written) }

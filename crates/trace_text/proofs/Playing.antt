@@ -3,7 +3,7 @@ use Rattle.std.proofs.Common.{◌≡◌, ℕ, Bool, true, false, IsTrue, List, O
 use Rattle.schedule_reader.specs.{declared.fault.ScheduleFault.ScheduleFault, declared.run.Run.Run, Schedule.choices_of}
 use Rattle.thread_machine.specs.{declared.choice.Choice.Choice, World.World}
 use Rattle.trace_text.specs.declared.{play.PlayFault.PlayFault, play.Refused.Refused, run.RunFault.RunFault}
-use Rattle.trace_text.specs.Playing.{IsToldOf, PlaysOn, PlaysTo, StopsAt, WritesPartOn, played_fault}
+use Rattle.trace_text.specs.Playing.{IsFaultOfReader, PlaysOn, PlaysTo, StopsAt, WritesPartOn, played_fault}
 use Rattle.trace_text.specs.Trace.{AppendsPartOf, lines_of}
 use Rattle.trace_text.specs.declared.play.PlayFault.TheVariants as play
 use Rattle.trace_text.proofs.Plays.{Plays-append, Plays-refused, Part-append, Part-whole}
@@ -44,7 +44,7 @@ told-plays result told before after was played runs given known new are on is = 
 -- what stops behind it where it told one
 pub told-stops : (result : Result (Option Refused) RunFault) (told : Result (Unit {0}) ScheduleFault) (before after : World) (was played : Option Refused)
     (runs given : List Run) (known new : Option (List ℕ)) (failed : Bool) → runs ≡ given
-    → PlaysOn before after was played (choices_of runs) known new → IfErr result (λ f. IsToldOf f told)
+    → PlaysOn before after was played (choices_of runs) known new → IfErr result (λ f. IsFaultOfReader f told)
     → IfErr result (λ f. StopsAt f told before was (choices_of given) known new failed)
 told-stops result told before after was played runs given known new failed are on never = grind (arith, Part-whole)
 

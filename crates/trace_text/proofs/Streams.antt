@@ -6,7 +6,7 @@ use Rattle.byte_ports.specs.Port.{FailsForGood}
 use Rattle.schedule_reader.specs.Schedule.{Schedule, finished_schedule, choices_of}
 use Rattle.thread_machine.specs.{Standing.standing_of, World.World, declared.choice.Choice.Choice, Execution.execution, declared.fault.StepFault.StepFault, Step.refusal_of}
 use Rattle.trace_text.specs.{declared.play.Refused.Refused, Lines.refusal_text, declared.run.RunFault.RunFault, Start.Begins, Outcome.EndsFrom, Outcome.Stops, Outcome.StopsFrom, declared.play.PlayFault.PlayFault, RunText.AreTraced, RunText.refusal_in, State.state_text, declared.run_end.RunEnd.RunEnd}
-use Rattle.trace_text.specs.Playing.{HasPlayedAll, PlaysTo, played_fault, row_of, told_as}
+use Rattle.trace_text.specs.Playing.{HasPlayedAll, PlaysTo, played_fault, row_of, refusal_reported}
 use Rattle.trace_text.specs.Trace.{AppendsPartOf, lines_of, refused_of}
 use Rattle.trace_text.specs.declared.run.RunFault.TheVariants as fault
 use Rattle.trace_text.specs.declared.play.PlayFault.TheVariants as play
@@ -43,7 +43,7 @@ has_answered x before true result is fails = grind arith
 -- what is told of a run's end, beside the world that it leaves
 abbrev pub TellsEnd : World → Option Refused → RunEnd → Type 0
 TellsEnd last refused end =
-    (end.standing ≡ standing_of last) × (end.state.items ≡ state_text last) × (end.refused ≡ option_map (told_as last) refused)
+    (end.standing ≡ standing_of last) × (end.state.items ≡ state_text last) × (end.refused ≡ option_map (refusal_reported last) refused)
 
 -- the line of a choice that is refused
 refused_line : (world : World) (choice : Choice) (why : StepFault) → refusal_of world choice ≡ Some why
@@ -51,7 +51,7 @@ refused_line : (world : World) (choice : Choice) (why : StepFault) → refusal_o
 refused_line world choice why is = grind arith
 
 told_so : (first last : World) (choices : List Choice) (refused : Option Refused) → last ≡ (execution first choices).world
-    → refused ≡ refused_of first choices → option_map (told_as last) refused ≡ option_map (refusal_in last) (refused_of first choices)
+    → refused ≡ refused_of first choices → option_map (refusal_reported last) refused ≡ option_map (refusal_in last) (refused_of first choices)
 told_so first last choices None world_is is = ap (option_map (refusal_in last)) is
 told_so first last choices (Some refused) world_is is =
     let there = refused_there choices first refused is in

@@ -26,8 +26,8 @@ row_of world choice =
     if nat_lt choice.thread (length world.scene.threads) then Some (thread_at world.scene choice.thread).pc else None
 
 -- what is reported of a choice if it is refused in this world
-abbrev pub told_as : World → Refused → Refusal
-told_as world refused =
+abbrev pub refusal_reported : World → Refused → Refusal
+refusal_reported world refused =
     record {
       number = world.choices + 1;
       line = refusal_text (world.choices + 1) refused.choice (row_of world refused.choice);
@@ -67,10 +67,10 @@ HasPlayedAll first last all schedule_before schedule_after old new =
     × (finished_schedule bytes ≡ record { runs = runs; fault = None }) × PlaysTo first last (choices_of runs) all old new))
 
 -- the fault of a run whose reader returned this
-abbrev pub IsToldOf : RunFault → Result (Unit {0}) ScheduleFault → Type 0
-IsToldOf (fault.Schedule f) told = (told ≡ Err f) × (f ≢ schedule.Memory)
-IsToldOf fault.Memory told = told ≡ Err schedule.Memory
-IsToldOf _ told = ⊥
+abbrev pub IsFaultOfReader : RunFault → Result (Unit {0}) ScheduleFault → Type 0
+IsFaultOfReader (fault.Schedule f) told = (told ≡ Err f) × (f ≢ schedule.Memory)
+IsFaultOfReader fault.Memory told = told ≡ Err schedule.Memory
+IsFaultOfReader _ told = ⊥
 
 -- the fault of a run whose choices can't be played further
 abbrev pub played_fault : PlayFault → RunFault

@@ -15,7 +15,7 @@ use std::alloc::AllocError;
 use thread_machine::{Choice, Event, Machine, StepFault};
 
 /// Why a trace is cut short.
-#[derive(Clone, Copy, Debug, PartialEq, Eq)]
+#[derive(Clone, Copy, PartialEq, Eq)]
 pub enum PlayFault {
     /// Out of memory.
     Memory,
@@ -36,7 +36,7 @@ fn push_line<W: Sink>(line: &[u8], output: &mut W) -> Result<(), PlayFault>
 }
 
 /// The choice that ends a run, since the machine has refused it, and why: `NoSuchThread`, or `StepLimit`.
-#[derive(Clone, Copy, Debug, PartialEq, Eq)]
+#[derive(Clone, Copy, PartialEq, Eq)]
 pub struct Refused {
     pub choice: Choice,
     pub why: StepFault,

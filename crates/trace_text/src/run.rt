@@ -4,7 +4,7 @@ ghost use Rattle.row_code.specs.declared.image.Image.{Image};
 ghost use Rattle.schedule_reader.specs.Schedule.{choices_of};
 ghost use Rattle.thread_machine.specs.World.{world_of};
 ghost use Rattle.trace_text.specs.{declared.run_end.RunEnd.RunEnd, Outcome.ComesTo, Outcome.Stops, Outcome.StopsFrom};
-ghost use Rattle.trace_text.specs.Playing.{HasPlayedAll, IsToldOf, PlaysOn, StopsAt, played_fault};
+ghost use Rattle.trace_text.specs.Playing.{HasPlayedAll, IsFaultOfReader, PlaysOn, StopsAt, played_fault};
 ghost use Rattle.trace_text.specs.Start.{Begins};
 
 use crate::choice_line::ChoiceLine;
@@ -28,7 +28,7 @@ const MOST_RUNS: usize = 1400;
 const MOST_READS: u64 = 1_000_000_000;
 
 /// Why a trace is not written, or is cut short.
-#[derive(Clone, Copy, Debug, PartialEq, Eq)]
+#[derive(Clone, Copy, PartialEq, Eq)]
 pub enum RunFault {
     /// The image can't be loaded. The fault is never `Memory`.
     Load(LoadFault),
@@ -55,12 +55,12 @@ impl RunFault {
 }
 
 /// Returns `told`, what the reader of a schedule returned, if that is a fault, and otherwise the refused choice, or `None`.
-fn told_of(
+fn read_or_refused(
     told: Result<(), ScheduleFault>,
     refused: Option<Refused>,
 ) -> Result<Option<Refused>, RunFault>
     ensures ok { IfOk result (λ last. (told ≡ Ok tt) × (last ≡ refused)) }
-    ensures err { IfErr result (λ fault. IsToldOf fault told) }
+    ensures err { IfErr result (λ fault. IsFaultOfReader fault told) }
 {
     match told {
         Ok(()) => Ok(refused),
@@ -71,7 +71,7 @@ fn told_of(
 
 /// Plays the runs that a reader appended to the list, unless a choice was refused before, and empties the list. Then returns
 /// the reader's fault, `told`, if it has one, and otherwise the refused choice, or `None` if none was refused.
-fn play_told<W: Sink>(
+fn play_piece<W: Sink>(
     machine: &mut Machine,
     refused: Option<Refused>,
     told: Result<(), ScheduleFault>,
@@ -88,12 +88,12 @@ fn play_told<W: Sink>(
 {
     if refused.is_some() {
         runs.clear();
-        return told_of(told, refused);
+        return read_or_refused(told, refused);
     }
     let played = play_runs(machine, runs.as_slice(), line, output);
     runs.clear();
     match played {
-        Ok(refused) => told_of(told, refused),
+        Ok(refused) => read_or_refused(told, refused),
         Err(fault) => Err(RunFault::of_play(fault)),
     }
 }
@@ -126,10 +126,10 @@ fn play_stream<S: Source, W: Sink>(
         };
         if count == 0 {
             let told = reader.finish(runs);
-            return play_told(machine, refused, told, runs, &mut line, output);
+            return play_piece(machine, refused, told, runs, &mut line, output);
         }
         let told = reader.feed(&piece[..count], runs);
-        match play_told(machine, refused, told, runs, &mut line, output) {
+        match play_piece(machine, refused, told, runs, &mut line, output) {
             Ok(last) => refused = last,
             Err(fault) => return Err(fault),
         }

@@ -2,7 +2,7 @@
 ghost use Rattle.std.specs.Prelude.{◌≡◌, ◌+◌, IfOk, IsTrue, OnOk, Option, option_map};
 ghost use Rattle.std.specs.Io.KnownBytes.{Appends};
 ghost use Rattle.thread_machine.specs.{World.world_of, Standing.standing_of};
-ghost use Rattle.trace_text.specs.{Lines.refusal_text, Playing.row_of, Playing.told_as, State.state_text};
+ghost use Rattle.trace_text.specs.{Lines.refusal_text, Playing.row_of, Playing.refusal_reported, State.state_text};
 
 use crate::line::put_refusal;
 use crate::line_end::LineEnd;
@@ -46,8 +46,8 @@ fn row_of(machine: &Machine, choice: Choice) -> Option<u16>
 }
 
 /// Returns what is reported of a choice that this machine has refused: its number, its line and the cause.
-fn told(machine: &Machine, refused: Refused) -> Refusal
-    ensures { result ≡ told_as (world_of machine.now) refused }
+fn refusal_reported(machine: &Machine, refused: Refused) -> Refusal
+    ensures { result ≡ refusal_reported (world_of machine.now) refused }
 {
     let mut line = LineEnd::new();
     let number = machine.choices() + 1;
@@ -74,7 +74,7 @@ pub fn push_end<W: Sink>(
 ) -> Result<RunEnd, PlayFault>
     ensures tells { IfOk result (λ end. (end.standing ≡ standing_of (world_of machine.now))
         × (end.state.items ≡ state_text (world_of machine.now))
-        × (end.refused ≡ option_map (told_as (world_of machine.now)) refused)) }
+        × (end.refused ≡ option_map (refusal_reported (world_of machine.now)) refused)) }
     ensures state { OnOk result (Appends (W.written output.old) (W.written output.new)
         (state_text (world_of machine.now))) }
     ensures memory { result ≡ Err PlayFault.Memory → W.written output.new ≡ W.written output.old }
@@ -89,7 +89,7 @@ pub fn push_end<W: Sink>(
             standing: machine.standing(),
             state,
             refused: match refused {
-                Some(refused) => Some(told(machine, refused)),
+                Some(refused) => Some(refusal_reported(machine, refused)),
                 None => None,
             },
         }),

@@ -12,7 +12,7 @@ use thread_machine::Machine;
 const MOST_STEPS: u32 = 1_000_000_000;
 
 /// Why an image has no machine.
-#[derive(Clone, Copy, Debug, PartialEq, Eq)]
+#[derive(Clone, Copy, PartialEq, Eq)]
 pub enum StartFault {
     /// The image can't be loaded. The fault is never `Memory`.
     Load(LoadFault),

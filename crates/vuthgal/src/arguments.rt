@@ -22,7 +22,7 @@ use workbench::fault::Fault;
 const NAME: &str = "vuthgal";
 
 /// Room for most arguments.
-const ROOM: usize = 4_096;
+const ROOM: usize = 1_024;
 
 /// More bytes than the system lets an argument have.
 const LONGEST_WORD: usize = 131_072;

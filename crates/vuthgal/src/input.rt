@@ -46,7 +46,7 @@ pub fn standard<'a>(report: &'a Report<'_>) -> Stream<'a> {
 }
 
 /// Opens what an argument names: a file, or standard input for `-`; then a person reads `waiting`. Returns it with its name.
-pub fn named<'a, 'b>(
+pub fn open_named<'a, 'b>(
     report: &'a Report<'_>,
     word: &'b str,
     waiting: &[u8],

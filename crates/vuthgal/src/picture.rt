@@ -23,7 +23,7 @@ use workbench::ending::flushed;
 use workbench::fault::Fault;
 
 /// Writes the picture of a program under a schedule. A person is told, too, which choice's thread doesn't exist.
-fn made<P: Picture>(
+fn write_picture<P: Picture>(
     report: &Report<'_>,
     picture: &P,
     file: ProgramFile<'_>,
@@ -70,10 +70,16 @@ fn picture<P: Picture>(
     match steps {
         OpenSteps::Beside => {
             let choices = Choices::beside(file, beside);
-            made(report, picture, file, program, choices)
+            write_picture(report, picture, file, program, choices)
         }
         OpenSteps::Named(name, stream) => {
-            made(report, picture, file, program, Choices::named(name, stream))
+            write_picture(
+                report,
+                picture,
+                file,
+                program,
+                Choices::of_stream(name, stream),
+            )
         }
         OpenSteps::Plan(name, plan) => {
             let bytes = plan.as_slice();
@@ -86,7 +92,7 @@ fn picture<P: Picture>(
                 return Err(report.fault(Fault::Memory));
             };
             let choices = Choices::planned(name, schedule.as_bytes());
-            let done = made(report, picture, file, program, choices)?;
+            let done = write_picture(report, picture, file, program, choices)?;
             // A picture that is refused has its own help.
             if planned.stopped {
                 explain_stopped(report, written);

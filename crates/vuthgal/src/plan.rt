@@ -32,7 +32,7 @@ fn inputs<'a>(
         return Ok((program, "", Vec::new(report.alloc())));
     };
     let waiting = b"reading a plan from the terminal (plan --help lists its words)\n";
-    let (name, stream) = input::named(report, word, waiting)?;
+    let (name, stream) = input::open_named(report, word, waiting)?;
     let program = input::contents(report, file, program)?;
     Ok((program, name, input::contents(report, name, stream)?))
 }

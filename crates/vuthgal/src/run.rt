@@ -62,11 +62,11 @@ impl<'a> Choices<'a> {
 
     /// Returns the schedule that a plan of this name stands for.
     pub fn planned(name: &'a str, schedule: &'a [u8]) -> Choices<'a> {
-        Choices::named(name, Stream::Text(schedule))
+        Choices::of_stream(name, Stream::Text(schedule))
     }
 
     /// Returns the schedule of this name. A text is that of a plan.
-    pub fn named(name: &'a str, stream: Stream<'a>) -> Choices<'a> {
+    pub fn of_stream(name: &'a str, stream: Stream<'a>) -> Choices<'a> {
         Choices {
             name,
             origin: match &stream {
@@ -82,7 +82,7 @@ impl<'a> Choices<'a> {
 }
 
 /// Returns `Unlike`, and reports it, if a run didn't end as expected. If a thread can still continue, a person reads `live`.
-pub fn ended(
+pub fn report_end(
     report: &Report<'_>,
     program: &[u8],
     expected: &[Vec<u8>],
@@ -121,7 +121,7 @@ fn played(
     let answer = shown::run(alloc, image, &mut schedule, &mut output);
     match passed_on(answer.map_err(|fault| Fault::of_run(fault)), &mut output) {
         Ok(end) => {
-            let done = ended(report, file.bytes, expected, &end, choices.live);
+            let done = report_end(report, file.bytes, expected, &end, choices.live);
             if let Some(refused) = &end.refused {
                 if refused.why == StepFault::NoSuchThread {
                     schedule::note_missing(report, name, &schedule, refused.number);
@@ -147,7 +147,7 @@ fn play_plan(
     let answer = shown::run_choices(report.alloc(), program.image, runs.as_slice(), &mut output);
     let live = if stopped { "" } else { SCHEDULE_ENDS };
     match passed_on(answer.map_err(|fault| Fault::of_run(fault)), &mut output) {
-        Ok(end) => Ok(ended(report, file.bytes, expected, &end, live)),
+        Ok(end) => Ok(report_end(report, file.bytes, expected, &end, live)),
         Err(fault) => Err(fail(report, file, file.name, fault)),
     }
 }
@@ -181,7 +181,7 @@ pub fn run<'a>(
     let expected = expected.as_slice();
     let choices = match steps {
         OpenSteps::Beside => Choices::beside(file, beside),
-        OpenSteps::Named(name, stream) => Choices::named(name, stream),
+        OpenSteps::Named(name, stream) => Choices::of_stream(name, stream),
         OpenSteps::Plan(name, plan) => {
             let bytes = plan.as_slice();
             return play_plan(report, file, program, PlanFile { name, bytes }, expected);

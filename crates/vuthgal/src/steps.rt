@@ -37,7 +37,7 @@ fn open_steps<'a>(report: &'a Report<'_>, steps: Steps<'a>) -> Result<OpenSteps<
         Steps::Trace(name) => Ok(OpenSteps::Named(name, input::stream(report, name)?)),
         Steps::Named(word) => {
             let waiting = b"reading a schedule from the terminal (Ctrl-D ends it)\n";
-            let (name, stream) = input::named(report, word, waiting)?;
+            let (name, stream) = input::open_named(report, word, waiting)?;
             Ok(OpenSteps::Named(name, stream))
         }
         Steps::Plan(plan) => {

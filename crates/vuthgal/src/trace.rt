@@ -24,7 +24,7 @@ pub fn compare(
     is_shown: bool,
 ) -> Result<Done, Reported> {
     let stream = input::stream(report, name)?;
-    let (trace, read) = input::named(report, trace, b"")?;
+    let (trace, read) = input::open_named(report, trace, b"")?;
     let bytes = input::contents(report, name, stream)?;
     let file = ProgramFile::whole(name, bytes.as_slice());
     let image = input::program(report, file)?.image;
@@ -49,7 +49,7 @@ pub fn compare(
 
 /// Writes the schedule of a trace. Returns `Unlike`, which is status 1, if the file is no trace.
 pub fn choices(report: &Report<'_>, trace: &str) -> Result<Done, Reported> {
-    let (name, stream) = input::named(report, trace, b"")?;
+    let (name, stream) = input::open_named(report, trace, b"")?;
     let mut watched = Watched::new(report.alloc(), ReadPort::new(stream), 0);
     let mut output = block_port(report)?;
     let answer = commands::choices::choices(report.alloc(), &mut watched, &mut output);

@@ -15,11 +15,11 @@ pub nothing_came : (now before : List ℕ) → Some now ≡ Some before → befo
 nothing_came now before same empty = grind arith
 
 -- with status 3 there is a reason
-pub has_reason : (answer : Result (Unit {0}) Unplanned) (status : ℕ) (before after : Option (List ℕ)) (Told : Unplanned → Type 0)
-    → IfErr answer (λ reason. unplanned_status reason ≡ 3 → Told reason)
-    → SettlesSeeds answer status false before after → status ≡ 3 → (reason : Unplanned) × Told reason
-has_reason (Ok done) status before after Told wrong settles three = absurd (omega (arith, settles.0, three))
-has_reason (Err reason) status before after Told wrong settles three = (reason, wrong (sym settles.0 ∙ three))
+pub has_reason : (answer : Result (Unit {0}) Unplanned) (status : ℕ) (before after : Option (List ℕ)) (Reported : Unplanned → Type 0)
+    → IfErr answer (λ reason. unplanned_status reason ≡ 3 → Reported reason)
+    → SettlesSeeds answer status false before after → status ≡ 3 → (reason : Unplanned) × Reported reason
+has_reason (Ok done) status before after Reported wrong settles three = absurd (omega (arith, settles.0, three))
+has_reason (Err reason) status before after Reported wrong settles three = (reason, wrong (sym settles.0 ∙ three))
 
 -- a call that returns 3 came to the status 3: out of memory it returns 4
 pub came_to_three : (status : ℕ) (output line : List ℕ) (answer : ℕ) (output_before output_after : List ℕ) (output_count : ℕ)

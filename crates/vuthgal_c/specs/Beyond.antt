@@ -3,7 +3,7 @@ use Rattle.std.specs.Prelude.{◌≡◌, ◌≢◌, ◌⊎◌, ◌<◌, ◌==◌
 use Rattle.std.specs.{Fmt.decimal, Io.KnownBytes.Appends}
 use Rattle.commands.specs.{Drawing.IsDrawingIn, Picture.HaveNoPicture, Pictures.HasWritten, Pictures.program_of}
 use Rattle.commands.specs.{Planning.HasNamedPlanned, Planning.HasNoSchedule, Planning.HasPlanned, declared.seeds.Seeds.Seeds}
-use Rattle.commands.specs.{Seeds.HaveNoReport, Seeds.HasReportedSeeds, declared.seeds.Unlike.Unlike, Choices.HasToldChoices}
+use Rattle.commands.specs.{Seeds.HaveNoReport, Seeds.HasReportedSeeds, declared.seeds.Unlike.Unlike, Choices.HasWrittenChoices}
 use Rattle.commands.specs.{Unplanned.unplanned_line, Unplanned.unplanned_status, declared.unplanned.Unplanned.Unplanned}
 use Rattle.commands.specs.declared.unplanned.Unplanned.TheVariants as why
 use Rattle.workbench.specs.{declared.fault.Fault.Fault, declared.program.Program.Program, Done.as_asked, Fault.status_of}
@@ -21,9 +21,9 @@ done_by_trace true = done.AsAsked
 done_by_trace false = done.Unlike
 
 -- the schedule of a trace was written, and where it isn't a trace; or a part of it, if the trace is too long to be read
-pub record ToldChoices (answer : Result Bool Fault) (trace_before trace_after output_before output_after : Option (List ℕ)) : Type 0 where
+pub record WrittenChoices (answer : Result Bool Fault) (trace_before trace_after output_before output_after : Option (List ℕ)) : Type 0 where
   pub done : IfOk answer (λ is_trace. (naming : Naming) × ((is_trace ≡ is_none naming.no_line)
-      × HasToldChoices naming trace_before trace_after output_before output_after))
+      × HasWrittenChoices naming trace_before trace_after output_before output_after))
   pub unchanged : answer ≡ Err fault.Memory → output_after ≡ output_before
   pub part : answer ≡ Err fault.Read → HasWrittenPart trace_before trace_after output_before output_after
   pub read : answer ≡ Err fault.Read → GivesOnAndOn trace_before trace_after
@@ -32,7 +32,7 @@ pub record ToldChoices (answer : Result Bool Fault) (trace_before trace_after ou
 abbrev pub NamesChoices : (trace : List ℕ) (status : ℕ) (schedule line : List ℕ) → Type 0
 NamesChoices trace status schedule line =
     (answer : Result Bool Fault) × ((left : Option (List ℕ))
-    × (ToldChoices answer (Some trace) left (Some []) (Some schedule) × Settles done_by_trace answer status line))
+    × (WrittenChoices answer (Some trace) left (Some []) (Some schedule) × Settles done_by_trace answer status line))
 
 -- the program that a file holds
 abbrev pub IsProgramIn : (file : List ℕ) → Program → Type 0

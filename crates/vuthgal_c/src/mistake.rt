@@ -276,7 +276,7 @@ fn push_hint<K: Sink>(alloc: Global, mistake: &Mistake, output: &mut K) {
 
 /// Looks for a mistake in the program, or in `input`. If there is one (status 3), writes the line that helps, sets `place`, and
 /// fails with the reason. In any other case it writes nothing, and `place` is no place.
-fn told<K: Sink>(
+fn find_mistake<K: Sink>(
     alloc: Global,
     kind: Kind,
     file: &[u8],
@@ -323,7 +323,7 @@ pub extern "C" fn vuthgal_mistake(
     ensures place { IsPlaced (kind_of kind) program.now input.now result place.new }
 {
     let mut reply = Reply::new(alloc, output.len(), line.len());
-    let answer = told(
+    let answer = find_mistake(
         alloc,
         kind_of(kind),
         program,

@@ -50,12 +50,12 @@ ComesOfProgram Comes Untouched answer before after failed =
     ⊎ (IsNone answer (λ f. HasNoProgram f before after failed) × Untouched)
 
 -- a run's fault, in the words of the commands
-abbrev pub told_as : RunFault → Fault
-told_as (run_fault.Load f) = fault.Load f
-told_as (run_fault.Schedule f) = fault.Schedule f
-told_as run_fault.Memory = fault.Memory
-told_as run_fault.Read = fault.Read
-told_as run_fault.Write = fault.Write
+abbrev pub fault_of_run : RunFault → Fault
+fault_of_run (run_fault.Load f) = fault.Load f
+fault_of_run (run_fault.Schedule f) = fault.Schedule f
+fault_of_run run_fault.Memory = fault.Memory
+fault_of_run run_fault.Read = fault.Read
+fault_of_run run_fault.Write = fault.Write
 
 -- an image's program was played under a schedule, and came to this
 abbrev pub Plays : Image → Result RunEnd Fault → (schedule_before schedule_after : Option (List ℕ)) (schedule_failed : Bool)
@@ -63,7 +63,7 @@ abbrev pub Plays : Image → Result RunEnd Fault → (schedule_before schedule_a
 Plays image (Ok end) schedule_before schedule_after schedule_failed output_before output_after output_failed =
     ComesTo image (Ok end) schedule_before schedule_after schedule_failed output_before output_after output_failed
 Plays image (Err f) schedule_before schedule_after schedule_failed output_before output_after output_failed =
-    (why : RunFault) × ((f ≡ told_as why)
+    (why : RunFault) × ((f ≡ fault_of_run why)
     × Stops image why schedule_before schedule_after schedule_failed output_before output_after output_failed)
 
 -- a text with both: the program, and after its line `.run` the schedule. These bytes never fail: only 1,000,000,000 of them

@@ -7,7 +7,7 @@ use crate::fault::Fault;
 use byte_ports::Sink;
 
 /// The result of a command without a fault.
-#[derive(Clone, Copy, Debug, PartialEq, Eq)]
+#[derive(Clone, Copy, PartialEq, Eq)]
 pub enum Done {
     /// Everything is as the caller asked.
     AsAsked,

@@ -1,7 +1,7 @@
 // Why a command gave up, its line for standard error, and its exit status.
 ghost use Rattle.std.specs.Prelude.{◌≡◌, ◌++◌, IsTrue, OnErr, OnOk, codes};
 ghost use Rattle.std.specs.Io.KnownBytes.{Appends};
-ghost use Rattle.workbench.specs.Outcome.{told_as};
+ghost use Rattle.workbench.specs.Outcome.{fault_of_run};
 ghost use Rattle.workbench.specs.Fault.{counted, counted_line, line_of, number_of, place_of, refusal_line, refusal_status, status_of, too_long, word_of};
 
 use assembler::PlacedFault;
@@ -14,7 +14,7 @@ use std::alloc::AllocError;
 use trace_text::RunFault;
 
 /// Which picture of a run is asked for.
-#[derive(Clone, Copy, Debug, PartialEq, Eq)]
+#[derive(Clone, Copy, PartialEq, Eq)]
 pub enum PictureKind {
     /// `show`
     Page,
@@ -74,7 +74,7 @@ impl From<AllocError> for Fault {
 impl Fault {
     /// Returns a run's fault as a command's fault.
     pub fn of_run(fault: RunFault) -> Fault
-        ensures { result ≡ told_as fault }
+        ensures { result ≡ fault_of_run fault }
     {
         match fault {
             RunFault::Load(fault) => Fault::Load(fault),

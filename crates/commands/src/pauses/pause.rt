@@ -5,7 +5,7 @@ use std::hint::spin_loop;
 use std::thread::yield_now;
 
 /// What a worker does before a turn.
-#[derive(Clone, Copy, Debug, PartialEq, Eq)]
+#[derive(Clone, Copy, PartialEq, Eq)]
 pub enum Pause {
     /// Nothing.
     NoPause,

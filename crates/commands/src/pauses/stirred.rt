@@ -6,7 +6,7 @@ use rand_core::utils::NextWord;
 use rand_pcg::Pcg32;
 
 /// The pauses of a run's workers before some of their turns. The generator of the seed says which, for each run, thread and turn.
-#[derive(Clone, Copy, Debug, PartialEq, Eq)]
+#[derive(Clone, Copy, PartialEq, Eq)]
 pub struct Stirred {
     pub seed: u64,
     /// The number of the run. Each run has other pauses.

@@ -160,7 +160,7 @@ fn is_at(barrier: &Barrier, broken: bool, waiting: u16) -> bool {
 }
 
 /// Makes a barrier, and panics if `parties` is 0.
-fn made(rt: &impl Abort, parties: u16, action: bool) -> Barrier {
+fn new_barrier(rt: &impl Abort, parties: u16, action: bool) -> Barrier {
     match Barrier::new(parties, action) {
         Some(barrier) => barrier,
         None => panic!(rt; "no barrier of {parties}"),
@@ -169,7 +169,7 @@ fn made(rt: &impl Abort, parties: u16, action: bool) -> Barrier {
 
 /// Makes the calls in order at a new barrier, each twice: first undone, then kept. Panics at a row that doesn't agree.
 fn check(rt: &impl Abort, parties: u16, action: bool, rows: &[Row]) {
-    let mut barrier = made(rt, parties, action);
+    let mut barrier = new_barrier(rt, parties, action);
     for (row, (call, broken, waiting)) in rows.iter().enumerate() {
         let back = agrees_and_goes_back(&mut barrier, call);
         let again = agrees(&mut barrier, call);
@@ -184,7 +184,7 @@ fn check(rt: &impl Abort, parties: u16, action: bool, rows: &[Row]) {
 #[test]
 fn parties_and_action(rt: HostRuntime) {
     assert!(rt; Barrier::new(0, false).is_none() && Barrier::new(0, true).is_none());
-    let barrier = made(&rt, 65535, true);
+    let barrier = new_barrier(&rt, 65535, true);
     assert!(rt; barrier.parties() == 65535 && barrier.has_action());
 }
 
@@ -297,7 +297,7 @@ fn each_waiter_finds_its_own_generation(rt: HostRuntime) {
 // A barrier of 64 parties trips at the last of 64 threads.
 #[test]
 fn sixty_four_threads(rt: HostRuntime) {
-    let mut barrier = made(&rt, 64, false);
+    let mut barrier = new_barrier(&rt, 64, false);
     for thread in 0..63 {
         let call = Call::Enter(thread, Entered::Wait(63 - thread as u16));
         assert!(rt; agrees(&mut barrier, &call));
@@ -311,7 +311,7 @@ fn sixty_four_threads(rt: HostRuntime) {
 // A barrier of 65535 parties never trips by 64 threads, and a reset releases them.
 #[test]
 fn more_parties_than_threads(rt: HostRuntime) {
-    let mut barrier = made(&rt, 65535, true);
+    let mut barrier = new_barrier(&rt, 65535, true);
     for thread in 0..64 {
         let call = Call::Enter(thread, Entered::Wait(65534 - thread as u16));
         assert!(rt; agrees(&mut barrier, &call));

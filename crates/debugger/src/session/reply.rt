@@ -18,7 +18,7 @@ use trace_text::line_end::LineEnd;
 use trace_text::state::state_text;
 
 /// Why a command was not carried out, or its reply not written.
-#[derive(Clone, Copy, Debug, PartialEq, Eq)]
+#[derive(Clone, Copy, PartialEq, Eq)]
 pub enum CommandFault {
     /// Out of memory.
     Memory,

@@ -5,7 +5,7 @@ ghost use Rattle.cyclic_barrier.specs.ThreadSet.{has};
 ghost use Rattle.loader.specs.Program.{IsNamed, row_at};
 ghost use Rattle.machine_scene.specs.{Scene.scene_of, Scene.counts_in, Scene.thread_at, Outcomes.is_ready};
 ghost use Rattle.machine_scene.specs.Sound.{IsSound, SeesWait, most_after};
-ghost use Rattle.machine_scene.specs.ReadySet.{AreReady, KnowsReady, IsSetAt, AreLooked, IsLooked, AreOthersReady, AreReadyBeside, is_registration, is_registering, interrupts, changes_tree, is_loud, changes_all, is_local_turn, runs_on, is_wait};
+ghost use Rattle.machine_scene.specs.ReadySet.{AreReady, KnowsReady, IsSetAt, AreLooked, IsLooked, AreOthersReady, AreReadyBeside, is_registration, is_registering, interrupts, changes_tree, concerns_others, changes_all, is_local_turn, runs_on, is_wait};
 
 use super::Stage;
 use super::ready::may_be_blocked;
@@ -65,8 +65,8 @@ fn changes_tree(row: Row) -> bool
 /// Returns whether a phase ends, a tree is terminated, a barrier trips or breaks, or a routine or an action begins. Then any
 /// other thread may become ready, or cease to be.
 #[inline(always)]
-fn is_loud(event: Event) -> bool
-    ensures { result ≡ is_loud event }
+fn concerns_others(event: Event) -> bool
+    ensures { result ≡ concerns_others event }
 {
     !matches!(event.mark, Mark::Nothing) || matches!(event.what, What::Enters)
 }
@@ -78,7 +78,7 @@ fn changes_all(row: Row, event: Event) -> bool
 {
     match row {
         Row::Pforce { .. } | Row::Creset { .. } => true,
-        _ => is_loud(event),
+        _ => concerns_others(event),
     }
 }
 
@@ -202,8 +202,8 @@ impl Stage {
         requires thread { t < length self.old.threads }
         requires turn { has self.old.ready.turns t ≡ true }
         requires apart { has self.old.ready.registering t ≡ false }
-        requires local { is_local_row row ≡ true → is_loud event ≡ false }
-        requires beside { is_loud event ≡ false → AreReadyBeside program.now t self.old.ready (scene_of self.old) }
+        requires local { is_local_row row ≡ true → concerns_others event ≡ false }
+        requires beside { concerns_others event ≡ false → AreReadyBeside program.now t self.old.ready (scene_of self.old) }
         requires waits { is_wait event.what ≡ true → (is_ready t program.now (scene_of self.old) ≡ false)
             × (is_registering t program.now (scene_of self.old) ≡ false) }
         ensures stored { self.new ≡ record self.old { ready = self.new.ready } }
@@ -211,7 +211,7 @@ impl Stage {
     {
         if is_local(row) {
             self.look_ahead(program, t);
-        } else if is_loud(event) {
+        } else if concerns_others(event) {
             self.ready = self.all_looked(program);
         } else if matches!(event.what, What::Waits) {
             self.leave_out(t);

@@ -165,7 +165,7 @@ fn gather<R: Threads>(rt: &R, phaser: &SharedPhaser, first: &mut Party, running:
 }
 
 /// Closes the phaser and returns its word. Fails with `Spawn` if a thread wasn't started (`is_whole` is false).
-fn ended(phaser: SharedPhaser, first: Party, is_whole: bool) -> Result<Word, Fault>
+fn last_word(phaser: SharedPhaser, first: Party, is_whole: bool) -> Result<Word, Fault>
     requires first { first.known.number ≡ 0 }
     requires phaser { phaser_of first ≡ phaser }
     ensures word { IfOk result (λ word. (is_whole ≡ true) × EndsAs first.known word) }
@@ -208,5 +208,5 @@ pub fn race<R: Threads + Wait + Sync, P: Pace + Sync>(
     let running = Vec::with_capacity(alloc, callers.len())?;
     let (mut first, running, is_whole) = run(rt, &phaser, first, callers, running, rounds, pace);
     gather(rt, &phaser, &mut first, running);
-    ended(phaser, first, is_whole)
+    last_word(phaser, first, is_whole)
 }

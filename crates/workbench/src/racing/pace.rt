@@ -7,7 +7,7 @@ pub trait Pace {
 }
 
 /// Nobody gets a report.
-#[derive(Clone, Copy, Debug, PartialEq, Eq)]
+#[derive(Clone, Copy, PartialEq, Eq)]
 pub struct NoPace;
 
 impl Pace for NoPace {

@@ -21,7 +21,7 @@ returns-in-Ok-State-clause-written g c =
     let so = c.loop-before.invariant.so in
     let is : c.next_name.result ≡ Ok next.State = cc in
     let start = g.K.Sink.written c.args.output.now in
-    ended-so so.0 next.State None start (g.K.Sink.written c.end.new.output) c.ended.result c.end.result c.ended.ensures.ok c.ended.ensures.value
+    ended-so so.0 next.State None start (g.K.Sink.written c.end.new.output) c.result_of.result c.end.result c.result_of.ensures.ok c.result_of.ensures.value
     (c.end.ensures.ended start so.0 so.1.1) so.1.0 (c.next_name.ensures.last next.State is (λ choice e. cc) _) (append-nil so.0) refl
 
 pub returns-in-Ok-NotATrace-clause-written : goal.returns-in-Ok-NotATrace-clause-written
@@ -30,7 +30,7 @@ returns-in-Ok-NotATrace-clause-written g c =
     let is : c.next_name.result ≡ Ok next.NotATrace = cc in
     let start = g.K.Sink.written c.args.output.now in
     ended-so so.0 next.NotATrace (Some (c.loop-before.before + 1)) start (g.K.Sink.written c.end-in-Ok-NotATrace.new.output)
-    c.ended-in-Ok-NotATrace.result c.end-in-Ok-NotATrace.result c.ended-in-Ok-NotATrace.ensures.ok c.ended-in-Ok-NotATrace.ensures.value
+    c.result_of-in-Ok-NotATrace.result c.end-in-Ok-NotATrace.result c.result_of-in-Ok-NotATrace.ensures.ok c.result_of-in-Ok-NotATrace.ensures.value
     (c.end-in-Ok-NotATrace.ensures.ended start so.0 so.1.1) so.1.0 (c.next_name.ensures.last next.NotATrace is (λ choice e. cc) _)
     (append-nil so.0) refl
 
@@ -42,7 +42,7 @@ returns-in-Ok-CutOff-clause-written g c =
     let is : c.next_name.result ≡ Ok (next.CutOff c.in-Ok-CutOff.choice) = cc in
     let start = g.K.Sink.written c.args.output.now in
     ended-so all (next.CutOff c.in-Ok-CutOff.choice) (Some (c.loop-before.before + 2)) start (g.K.Sink.written c.end-in-Ok-CutOff.new.output)
-    c.ended-in-Ok-CutOff.result c.end-in-Ok-CutOff.result c.ended-in-Ok-CutOff.ensures.ok c.ended-in-Ok-CutOff.ensures.value
+    c.result_of-in-Ok-CutOff.result c.end-in-Ok-CutOff.result c.result_of-in-Ok-CutOff.ensures.ok c.result_of-in-Ok-CutOff.ensures.value
     (c.end-in-Ok-CutOff.ensures.ended start all (c.in-Ok-take-2.ensures.taken start so.0 so.1.1)) so.1.0
     (c.next_name.ensures.last (next.CutOff c.in-Ok-CutOff.choice) is (λ choice e. cc) _) refl (ap Some number)
 

@@ -7,7 +7,7 @@ use Rattle.workbench.proofs.Meetings.{HasGathered, final}
 use Rattle.workbench.proofs.racing.meeting.race.Goals as goal
 
 pub returns-clause-word : goal.returns-clause-word
-returns-clause-word g c = IfOk-weaker c.ended.result _ _ (λ word is.
+returns-clause-word g c = IfOk-weaker c.last_word.result _ _ (λ word is.
     let whole = is.0 in
     let kept = c.run-first.ensures.kept whole in
     let none : c.run-first.result.0.known.joined ≡ [] = ap (λ (p : Caller). p.known.joined) kept ∙ c.in_ok-callers.ensures.first.1.1 in
@@ -24,7 +24,7 @@ returns-clause-word g c = IfOk-weaker c.ended.result _ _ (λ word is.
           (subst (All (λ (k : Kept). AreMeetings k.number c.args.rounds k.calls)) (sym none)
           (All-nil (λ (k : Kept). AreMeetings k.number c.args.rounds k.calls)));
     } in
-    final c.args.parties c.args.rounds word c.gather.new.first.known opening gathered is.1) c.ended.ensures.word
+    final c.args.parties c.args.rounds word c.gather.new.first.known opening gathered is.1) c.last_word.ensures.word
 
 pub returns-clause-fault : goal.returns-clause-fault
-returns-clause-fault g c = IfErr-weaker c.ended.result _ _ (λ fault is. inr is.1) c.ended.ensures.spawn
+returns-clause-fault g c = IfErr-weaker c.last_word.result _ _ (λ fault is. inr is.1) c.last_word.ensures.spawn

@@ -1,7 +1,7 @@
 use Rattle.std.proofs.Common.{◌∙◌, sym, subst}
 use Rattle.vuthgal_c.specs.{Mistakes.Refuses, declared.place.PlaceLook.PlaceLook}
-use Rattle.vuthgal_c.proofs.mistake.told.Goals as goal
-use Rattle.vuthgal_c.proofs.mistake.told.Goals.{then-status-eq3, else-status-eq3}
+use Rattle.vuthgal_c.proofs.mistake.find_mistake.Goals as goal
+use Rattle.vuthgal_c.proofs.mistake.find_mistake.Goals.{then-status-eq3, else-status-eq3}
 
 -- the place is told with status 3
 pub returns-after-status-eq3-clause-mistake : goal.returns-after-status-eq3-clause-mistake
