@@ -14,8 +14,8 @@ WRONG = TOP / "kit" / "wrong" / "README.md"
 ADAPTERS = TOP / "kit" / "wrong" / "burst"
 LOCK_FREE = TOP / "kit" / "wrong" / "lockfree" / "table.txt"
 RULES = "\n".join((TOP / "docs" / f"{page}.md").read_text() for page in ("PHASER", "CYCLICBARRIER", "BEHAVIOUR"))
-RIGHT = "UnderOneLock"  # the classes of which the wrong ones are made
-ADAPTER = re.compile(r"/\*\*\n((?: \* .*\n)+) \*\n \* <p>Found by ([\w-]+)(?:; in lock-step (.*))?\.\n \*/\npublic final class (\w+)")
+CLASS = r"\n    static final class (\w+)"
+ADAPTER = re.compile(r"/\*\*\n((?:     \* .*\n)+)     \*\n     \* <p>Found by ([\w-]+)(?:; in lock-step (.*))?\.\n     \*/" + CLASS)
 
 
 def place_of(heading):
@@ -49,18 +49,17 @@ def table_of_cases():
 def table_of_adapters():
     player = "".join(it.read_text() for it in (TOP / "kit" / "player").glob("*Bursts.java"))
     kinds = set(re.findall(r'BurstKind\("([\w-]+)"', player))
+    sources = "".join(it.read_text() for it in ADAPTERS.glob("Wrong*.java"))
+    adapters = {found[-1]: found[:-1] for found in ADAPTER.findall(sources)}
+    silent = set(re.findall(CLASS, sources)) - adapters.keys()
+    if silent:
+        sys.exit(f"{', '.join(silent)}: the comment doesn't say which burst finds it: `<p>Found by KIND.`")
     rows = []
-    for path in sorted(ADAPTERS.glob("*.java")):
-        source = path.read_text()
-        found = ADAPTER.search(source)
-        if found:
-            comment, kind, lock_step, name = found.groups("")
-            if kind not in kinds:
-                sys.exit(f"{path.relative_to(TOP)}: there is no kind of burst {kind}")
-            said = " ".join(comment.replace(" * ", " ").split()).rstrip(".")
-            rows.append(f"| `{name}`: {said} | `{kind}` | {lock_step} |\n")
-        elif "public final class" in source and path.stem != RIGHT:
-            sys.exit(f"{path.relative_to(TOP)} doesn't say which burst finds it: `<p>Found by KIND.`")
+    for name, (comment, kind, lock_step) in sorted(adapters.items()):
+        if kind not in kinds:
+            sys.exit(f"{name}: there is no kind of burst {kind}")
+        said = " ".join(comment.replace(" * ", " ").split()).rstrip(".")
+        rows.append(f"| `{name}`: {said} | `{kind}` | {lock_step} |\n")
     for line in LOCK_FREE.read_text().splitlines():
         name, _, rest = line.partition(" | ")
         kind, _, said = rest.partition(" | ")

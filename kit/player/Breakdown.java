@@ -4,7 +4,7 @@ package kit.player;
 abstract class Breakdown extends RuntimeException {
     private static final long serialVersionUID = 1;
 
-    private final boolean atStart;
+    final boolean atStart;
 
     /** {@code atStart}: the real side was started for this play, and hadn't answered anything yet. */
     Breakdown(String what, boolean atStart) {
@@ -17,8 +17,4 @@ abstract class Breakdown extends RuntimeException {
 
     /** Whether a run of such plays has no end in sight. */
     abstract boolean isEndless();
-
-    final boolean atStart() {
-        return atStart;
-    }
 }

@@ -20,8 +20,8 @@ final class BurstByLists {
 
     private final Burst burst;
     private final Stage stage;
-    private final BurstHistory history;
-    private final BlockingQueue<PortLine> told = new LinkedBlockingQueue<>();
+    final BurstHistory history;
+    final BlockingQueue<PortLine> told = new LinkedBlockingQueue<>();
     private final List<String> lines = new ArrayList<>();
     /** What each thread was given and hasn't made yet. */
     private final Map<Integer, Deque<Given>> given = new HashMap<>();
@@ -39,14 +39,6 @@ final class BurstByLists {
         this.burst = burst;
         this.stage = stage;
         history = new BurstHistory(burst, true);
-    }
-
-    BurstHistory history() {
-        return history;
-    }
-
-    BlockingQueue<PortLine> told() {
-        return told;
     }
 
     /** How many threads have a list that hasn't ended. */
@@ -164,7 +156,7 @@ final class BurstByLists {
 
     /** By the port's clock: that of this JVM may be another, but both began with the first call. */
     long now() {
-        long first = history.entries().stream().mapToLong(BurstEntry::beganAt).min().orElse(0);
+        long first = history.entries().stream().mapToLong(entry -> entry.beganAt).min().orElse(0);
         return first + System.nanoTime() - went;
     }
 

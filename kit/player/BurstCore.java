@@ -72,9 +72,9 @@ final class BurstCore {
 
     /** Whole threads at first, and then, by ever smaller parts, what is left. */
     private void reduce(boolean latestFirst) {
-        for (int thread = history.burst().looker(); thread >= 0; thread--) {
-            int it = latestFirst ? thread : history.burst().looker() - thread;
-            List<BurstEntry> all = entries.stream().filter(entry -> entry.thread() == it && !calls.contains(entry)).toList();
+        for (int thread = history.burst.looker(); thread >= 0; thread--) {
+            int it = latestFirst ? thread : history.burst.looker() - thread;
+            List<BurstEntry> all = entries.stream().filter(entry -> entry.thread == it && !calls.contains(entry)).toList();
             if (all.stream().noneMatch(BurstEntry::isOpen)) {
                 frees(all, calls);
             }
@@ -95,7 +95,7 @@ final class BurstCore {
             }
         }
         for (BurstEntry entry : left) {
-            if (isInTime() && !entry.step().interrupts()) {
+            if (isInTime() && !entry.step.interrupts()) {
                 frees(List.of(entry), answers);
             }
         }
@@ -128,7 +128,7 @@ final class BurstCore {
 
     private BurstEntry findEarly() {
         List<BurstEntry> judged = judged();
-        if (first == null || first.step().interrupts()) {
+        if (first == null || first.step.interrupts()) {
             return null;
         }
         if (judged.isEmpty()) {
@@ -168,7 +168,7 @@ final class BurstCore {
         List<BurstEntry> latestFirst = new ArrayList<>(judged());
         Collections.reverse(latestFirst);
         for (BurstEntry entry : latestFirst) {
-            if (entry.step().interrupts() || found.size() == MOST_REMEDIES) {
+            if (entry.step.interrupts() || found.size() == MOST_REMEDIES) {
                 continue;
             }
             LegalHistory.Other other = LegalHistory.otherAnswer(history, entry, System.nanoTime() + longestSearch);

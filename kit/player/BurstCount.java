@@ -25,7 +25,7 @@ final class BurstCount {
     private static final int FEWEST = 3;
 
     private final long begun = System.nanoTime();
-    private final BurstSuite suite = new BurstSuite();
+    final BurstSuite suite = new BurstSuite();
     /** How many bursts each had. */
     private final Map<String, Integer> kindsPlayed = new TreeMap<>();
     /** How many of these were with points. */
@@ -171,10 +171,6 @@ final class BurstCount {
         return kindsPlayed.keySet().stream().filter(kind -> played != kindsWithPoints || BurstKind.needsPoints(kind))
             .sorted(Comparator.comparingInt(kind -> played.getOrDefault(kind, 0))).limit(FEWEST)
             .map(kind -> kind + " had " + played.getOrDefault(kind, 0)).collect(Collectors.joining(", "));
-    }
-
-    BurstSuite suite() {
-        return suite;
     }
 
     /** The exit status: 0 where nothing was found, 1 where something was, 2 where nothing was compared, 3 too little. */

@@ -8,12 +8,15 @@ import java.util.List;
  * advance: what ended before something else began has the lower number.
  */
 final class BurstEntry {
-    private final int thread;
-    private final BurstStep step;
-    private final long begin;
-    private final long beganAt;
-    private final List<Entered> entered = new ArrayList<>(1);
-    private final List<Entered> asked = new ArrayList<>(1);
+    final int thread;
+    final BurstStep step;
+    final long begin;
+    /** When it began, in nanoseconds. */
+    final long beganAt;
+    /** The actions that it ran. */
+    final List<Entered> entered = new ArrayList<>(1);
+    /** What its onAdvance was asked; empty if it ran none, or that isn't known. */
+    final List<Entered> asked = new ArrayList<>(1);
     private volatile Answer answer;
     private volatile long end = Long.MAX_VALUE;
     private volatile long endedAt = Long.MAX_VALUE;
@@ -26,30 +29,13 @@ final class BurstEntry {
         this.beganAt = beganAt;
     }
 
-    int thread() {
-        return thread;
-    }
-
-    BurstStep step() {
-        return step;
-    }
-
     Request request() {
         return step.request();
-    }
-
-    long begin() {
-        return begin;
     }
 
     /** The largest number where it has no answer. */
     long end() {
         return end;
-    }
-
-    /** When it began, in nanoseconds. */
-    long beganAt() {
-        return beganAt;
     }
 
     /** When it ended, in nanoseconds. */
@@ -72,19 +58,9 @@ final class BurstEntry {
         entered.add(where);
     }
 
-    /** The actions that it ran. */
-    List<Entered> entered() {
-        return entered;
-    }
-
     /** Its thread runs an onAdvance. */
     void asks(Entered where) {
         asked.add(where);
-    }
-
-    /** What its onAdvance was asked; empty if it ran none, or that isn't known. */
-    List<Entered> asked() {
-        return asked;
     }
 
     void finish(Answer answer, long end, long endedAt) {

@@ -9,7 +9,7 @@ import java.util.concurrent.atomic.AtomicLong;
 
 /** All calls and interrupts of one burst, and how {@code onAdvance} was asked. */
 final class BurstHistory {
-    private final Burst burst;
+    final Burst burst;
     private final boolean timed;
     private final AtomicLong clock = new AtomicLong();
     private final Queue<BurstEntry> entries = new ConcurrentLinkedQueue<>();
@@ -30,10 +30,6 @@ final class BurstHistory {
         return timed;
     }
 
-    Burst burst() {
-        return burst;
-    }
-
     /** Some wait for ever. {@code now} is of the clock of {@code beganAt}, and {@code lines} tell what the real side is like. */
     void giveUp(long now, List<String> lines) {
         givenUpAt = now;
@@ -42,7 +38,7 @@ final class BurstHistory {
 
     /** How long a call without an answer had gone on when it was given up, in nanoseconds. */
     long waited(BurstEntry entry) {
-        return givenUpAt - entry.beganAt();
+        return givenUpAt - entry.beganAt;
     }
 
     /** What the real side was like when it was given up, in some lines. */
@@ -75,7 +71,7 @@ final class BurstHistory {
     /** {@code by} is null where it isn't known. */
     void asks(Entered where, BurstEntry by) {
         asked.add(where);
-        if (by != null && !by.step().interrupts()) {
+        if (by != null && !by.step.interrupts()) {
             by.asks(where);
         }
     }
@@ -100,7 +96,7 @@ final class BurstHistory {
 
     /** In the order in which they began. */
     List<BurstEntry> entries() {
-        return entries.stream().sorted(Comparator.comparingLong(BurstEntry::begin)).toList();
+        return entries.stream().sorted(Comparator.comparingLong(entry -> entry.begin)).toList();
     }
 
     boolean hasOpen() {
@@ -117,10 +113,10 @@ final class BurstHistory {
             lines.add(new ArrayList<>());
         }
         for (BurstEntry entry : entries()) {
-            if (entry.step().interrupts()) {
+            if (entry.step.interrupts()) {
                 lines.add(List.of(entry));
             } else {
-                lines.get(entry.thread()).add(entry);
+                lines.get(entry.thread).add(entry);
             }
         }
         lines.removeIf(List::isEmpty);

@@ -59,11 +59,11 @@ final class BurstJudge {
             return "onAdvance is asked twice for one phase";
         }
         for (InnerCall call : history.inner()) {
-            if (!call.isRight(history.burst())) {
+            if (!call.isRight(history.burst)) {
                 return call.words();
             }
         }
-        return switch (history.burst().claim()) {
+        return switch (history.burst.claim()) {
             case NONE -> null;
             case MEETS -> meets();
             case TRIPS -> trips();
@@ -71,11 +71,11 @@ final class BurstJudge {
     }
 
     private String meets() {
-        int[] met = new int[history.burst().looker()];
+        int[] met = new int[history.burst.looker()];
         for (BurstEntry entry : entries) {
-            boolean meets = !entry.step().interrupts() && entry.request().method() == Method.ARRIVE_AND_AWAIT_ADVANCE;
-            if (meets && !entry.answer().isValue(++met[entry.thread()])) {
-                int phase = met[entry.thread()] - 1;
+            boolean meets = !entry.step.interrupts() && entry.request().method() == Method.ARRIVE_AND_AWAIT_ADVANCE;
+            if (meets && !entry.answer().isValue(++met[entry.thread])) {
+                int phase = met[entry.thread] - 1;
                 return "not all who arrived for phase " + phase + " get the number after it: " + entry.words();
             }
         }
@@ -83,12 +83,12 @@ final class BurstJudge {
     }
 
     private String trips() {
-        int parties = history.burst().barriers().get(0).parties();
-        int[] came = new int[history.burst().looker()];
+        int parties = history.burst.barriers().get(0).parties();
+        int[] came = new int[history.burst.looker()];
         Map<List<Integer>, BurstEntry> indexes = new HashMap<>();
         for (BurstEntry entry : entries) {
-            if (!entry.step().interrupts() && entry.request().method() == Method.AWAIT) {
-                int trip = came[entry.thread()]++;
+            if (!entry.step.interrupts() && entry.request().method() == Method.AWAIT) {
+                int trip = came[entry.thread]++;
                 int index = entry.answer().number();
                 boolean is = entry.answer().kind() == Answer.Kind.VALUE && index >= 0 && index < parties;
                 BurstEntry same = is ? indexes.put(List.of(trip, index), entry) : null;

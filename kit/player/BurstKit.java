@@ -9,9 +9,9 @@ import java.util.LinkedHashMap;
 import java.util.List;
 import java.util.Map;
 import java.util.Set;
+import java.util.TreeMap;
 import java.util.concurrent.ConcurrentHashMap;
 import java.util.function.Function;
-import java.util.regex.Matcher;
 import java.util.regex.Pattern;
 
 /** The part of {@code kit/run} about bursts: the model that judges them, the JDK, the adapters that they have to find, ports. */
@@ -29,8 +29,7 @@ final class BurstKit {
     private static final int SEEDS_TO_FIND = 32;
     /** What is wrong may be taken to wait for ever sooner, if it is at rest then. */
     private static final long IMPATIENT = 200_000_000L;
-    private static final Pattern FOUND_BY = Pattern.compile("<p>Found by ([\\w-]+)");
-    private static final String RIGHT = "UnderOneLock";
+    private static final Pattern FOUND_BY = Pattern.compile("<p>Found by ([\\w-]+).*\\R +\\*/\\R +static final class (\\w+)");
 
     private final Vuthgal vuthgal;
     private final Part part;
@@ -214,23 +213,24 @@ final class BurstKit {
     private void checkRight(String name, Stage stage, int rounds, Set<String> kinds) throws IOException {
         Bursts bursts = new Bursts(List.of(stage), Bursts.PATIENT, null, part.to);
         bursts.play(new BurstOrder(1, BurstOrder.EACH, rounds, 0).of(kinds, PointSeeds.NONE));
-        int found = bursts.count().findings();
+        int found = bursts.count.findings();
         part.take("bursts on " + name, found == 0, found + " found");
         part.to.print("bursts on " + name + ": ");
         bursts.tell();
     }
 
-    /** Each wrong adapter of the folder is found by some burst, and the right one by none. */
+    /** Each wrong adapter is found by some burst, best of the kind that its comment names, and the right one by none. */
     void checkAdapters(WrongAdapters adapters) throws IOException {
-        Map<String, String> kinds = new LinkedHashMap<>();
-        for (String name : adapters.names()) {
-            if (!name.equals(RIGHT)) {
-                kinds.put(name, kind(adapters.folder().resolve(name + ".java")));
-            }
-        }
-        String wrong = new Bursts(List.of(adapters.stage(RIGHT)), Bursts.PATIENT, null, part.to)
+        String wrong = new Bursts(List.of(adapters.right()), Bursts.PATIENT, null, part.to)
             .find(1, ROUNDS_ON_THE_RIGHT_ONE, null, PointSeeds.OFF);
-        part.take(RIGHT, wrong == null, "it is right, and found: " + wrong);
+        part.take("UnderOneLock", wrong == null, "it is right, and found: " + wrong);
+        Map<String, String> kinds = new TreeMap<>();
+        for (Path source : adapters.sources) {
+            FOUND_BY.matcher(Files.readString(source)).results().forEach(found -> kinds.put(found.group(2), found.group(1)));
+        }
+        if (!kinds.keySet().equals(adapters.names())) {
+            throw new IllegalStateException("each of " + adapters.names() + " has to say which kind of burst finds it");
+        }
         takeFindings(kinds, adapters::stage);
     }
 
@@ -252,15 +252,6 @@ final class BurstKit {
             }
         }
         part.to.println("to be found by bursts: " + findings.size() + " found");
-    }
-
-    /** The kind of burst that the comment of an adapter names. */
-    private static String kind(Path source) throws IOException {
-        Matcher named = FOUND_BY.matcher(Files.readString(source));
-        if (!named.find()) {
-            throw new IllegalStateException(source + " doesn't say which kind of burst finds it");
-        }
-        return named.group(1);
     }
 
     /** What bursts find in something wrong: some of this kind, and with points where it has some, in turn; else many of all kinds. */

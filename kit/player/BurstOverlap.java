@@ -29,16 +29,16 @@ final class BurstOverlap {
     record One(int threads, int calls, long beside, long spread) {
         /** A wait runs beside all that happens in it. The player's own thread doesn't count. */
         static One of(BurstHistory history) {
-            List<BurstEntry> all = history.entries().stream().filter(each -> each.thread() != history.burst().looker()).toList();
+            List<BurstEntry> all = history.entries().stream().filter(each -> each.thread != history.burst.looker()).toList();
             long met = all.stream().filter(one -> all.stream().anyMatch(other -> runsBeside(one, other))).count();
             Map<Integer, Long> first = new TreeMap<>();
-            all.forEach(each -> first.putIfAbsent(each.thread(), each.beganAt() - each.step().delay()));
+            all.forEach(each -> first.putIfAbsent(each.thread, each.beganAt - each.step.delay()));
             LongSummaryStatistics began = first.values().stream().mapToLong(Long::longValue).summaryStatistics();
             return new One(first.size(), all.size(), met, began.getMax() - began.getMin());
         }
 
         private static boolean runsBeside(BurstEntry one, BurstEntry other) {
-            return one.thread() != other.thread() && one.beganAt() < other.endedAt() && other.beganAt() < one.endedAt();
+            return one.thread != other.thread && one.beganAt < other.endedAt() && other.beganAt < one.endedAt();
         }
     }
 

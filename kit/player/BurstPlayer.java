@@ -49,7 +49,7 @@ final class BurstPlayer {
 
     private BurstHistory playByLists(Burst burst) {
         BurstByLists lists = new BurstByLists(burst, stage);
-        build(burst, lists.history());
+        build(burst, lists.history);
         lists.start();
         boolean through = follow(burst, lists, true);
         if (through) {
@@ -59,9 +59,9 @@ final class BurstPlayer {
         if (!through) {
             stage.askSoFar();
             lists.takeSoFar();
-            giveUp(lists.history(), lists.now());
+            giveUp(lists.history, lists.now());
         }
-        return lists.history();
+        return lists.history;
     }
 
     /**
@@ -77,7 +77,7 @@ final class BurstPlayer {
             boolean pokes = stirring && !burst.pokes().isEmpty();
             boolean closes = stirring && burst.closer() != null && !lists.isRunning(burst.looker());
             long until = pokes ? System.nanoTime() + MILLISECOND / 4 : closes ? Math.min(nextClosing, limit) : limit;
-            PortLine said = next(lists.told(), until - System.nanoTime());
+            PortLine said = next(lists.told, until - System.nanoTime());
             if (said != null) {
                 lists.take(said);
             } else if (System.nanoTime() > limit) {

@@ -30,7 +30,7 @@ final class BurstReport {
     }
 
     String text() {
-        Burst burst = history.burst();
+        Burst burst = history.burst;
         BurstCore core = finding.overtaken() ? null : BurstCore.of(history);
         List<BurstRemedy> remedies = core == null ? null : core.remedies();
         line(head(burst));
@@ -41,7 +41,7 @@ final class BurstReport {
             + (history.isTimed() ? ", in nanoseconds:" : ":"));
         entries();
         List<Entered> left = new ArrayList<>(history.asked());
-        history.entries().forEach(entry -> entry.asked().forEach(left::remove));
+        history.entries().forEach(entry -> entry.asked.forEach(left::remove));
         left.forEach(where -> line("    " + asked(where)));
         if (!history.hasOpen() && !finding.overtaken()) {
             unexplained();
@@ -68,12 +68,12 @@ final class BurstReport {
     /** Who has no answer, for how long, and what it did before. */
     private void waits() {
         List<BurstEntry> open = history.entries().stream()
-            .filter(entry -> entry.isOpen() && (history.isTimed() || !entry.step().interrupts()))
-            .sorted(Comparator.comparingInt(BurstEntry::thread)).toList();
+            .filter(entry -> entry.isOpen() && (history.isTimed() || !entry.step.interrupts()))
+            .sorted(Comparator.comparingInt(entry -> entry.thread)).toList();
         for (BurstEntry entry : open) {
-            String before = history.entries().stream().filter(other -> !other.isOpen() && other.thread() == entry.thread())
+            String before = history.entries().stream().filter(other -> !other.isOpen() && other.thread == entry.thread)
                 .reduce((first, second) -> second).map(last -> ", after " + withoutThread(last.words())).orElse("");
-            line(String.format(Locale.ROOT, "    thread %-3d%6.1f s  %s%s", entry.thread(), history.waited(entry) / 1e9,
+            line(String.format(Locale.ROOT, "    thread %-3d%6.1f s  %s%s", entry.thread, history.waited(entry) / 1e9,
                 withoutThread(call(entry)), before));
         }
         history.seen().forEach(words -> line("  " + words));
@@ -101,7 +101,7 @@ final class BurstReport {
     }
 
     private static String call(BurstEntry entry) {
-        return entry.step().interrupts() ? entry.words() : "thread " + entry.thread() + ": " + entry.request().words();
+        return entry.step.interrupts() ? entry.words() : "thread " + entry.thread + ": " + entry.request().words();
     }
 
     private static String withoutThread(String words) {
@@ -154,8 +154,8 @@ final class BurstReport {
 
     /** Whether nothing but the time is another. */
     private static boolean isRepeated(BurstEntry entry, BurstEntry next) {
-        return entry.thread() == next.thread() && entry.words().equals(next.words()) && !entry.isOpen() && !next.isOpen()
-            && entry.entered().equals(next.entered()) && entry.asked().equals(next.asked());
+        return entry.thread == next.thread && entry.words().equals(next.words()) && !entry.isOpen() && !next.isOpen()
+            && entry.entered.equals(next.entered) && entry.asked.equals(next.asked);
     }
 
     private static String times(int count) {
@@ -163,14 +163,14 @@ final class BurstReport {
     }
 
     private void entry(BurstEntry entry, BurstEntry last, String times) {
-        line("    " + at(entry.begin()) + ".." + (last.isOpen() ? "" : at(last.end())) + " " + entry.words()
-            + (entry.entered().isEmpty() ? "" : ", ran the action") + times);
-        entry.asked().forEach(where -> line("      in it " + asked(where)));
+        line("    " + at(entry.begin) + ".." + (last.isOpen() ? "" : at(last.end())) + " " + entry.words()
+            + (entry.entered.isEmpty() ? "" : ", ran the action") + times);
+        entry.asked.forEach(where -> line("      in it " + asked(where)));
     }
 
     /** A moment of the history's clock, as it is told. */
     private long at(long time) {
-        return history.isTimed() ? time - history.entries().get(0).begin() : time;
+        return history.isTimed() ? time - history.entries().get(0).begin : time;
     }
 
     private void unexplained() {

@@ -89,7 +89,7 @@ abstract class BurstRunner implements CallWatcher {
         if (!where.ofPhaser()) {
             present.enters(where);
         }
-        Burst burst = history.burst();
+        Burst burst = history.burst;
         if (!burst.inner(where).isEmpty()) {
             pauseInside(burst, where);
             callInside(where, burst.inner(where).iterator());
@@ -132,10 +132,10 @@ abstract class BurstRunner implements CallWatcher {
 
     private void end(Entered where) {
         if (where.ofPhaser()) {
-            Policy policy = history.burst().phasers().get(where.object()).policy();
+            Policy policy = history.burst.phasers().get(where.object()).policy();
             real.answer(policy.decide(where.phase(), where.parties()) ? 1 : 0);
         } else {
-            endAction(real, history.burst().barriers().get(where.object()));
+            endAction(real, history.burst.barriers().get(where.object()));
         }
     }
 

@@ -34,7 +34,7 @@ final class Bursts {
     private final List<Place> places;
     private final Path keep;
     private final PrintStream to;
-    private final BurstCount count = new BurstCount();
+    final BurstCount count = new BurstCount();
     private BurstOrder order = new BurstOrder(1, BurstOrder.EACH, 0, 0);
     private long given;
     /** How many rounds of each kind, where time decides. */
@@ -48,10 +48,6 @@ final class Bursts {
         places = stages.stream().map(stage -> new Place(stage, new BurstPlayer(stage, bound, keep != null))).toList();
         this.keep = keep;
         this.to = to;
-    }
-
-    BurstCount count() {
-        return count;
     }
 
     /**
@@ -182,7 +178,7 @@ final class Bursts {
             return finding == null ? null : finding.words();
         } catch (Breakdown broken) {
             place.stage().abandon();
-            return broken.mayBeSlowness() || broken.atStart() ? null : broken.getMessage();
+            return broken.mayBeSlowness() || broken.atStart ? null : broken.getMessage();
         }
     }
 

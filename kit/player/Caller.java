@@ -106,16 +106,16 @@ final class Caller {
         Pending pending = new Pending(
             scene.tell(thread, new Request(row.method(), row.object(), row.number(thread.registers), time), time), row);
         scene.notes.asked();
-        RealThread.Outcome outcome = scene.settle(thread, pending.call());
+        RealThread.Outcome outcome = scene.settle(thread, pending.call);
         boolean changed = counts && scene.unarrived(row.object()) != before;
-        if (!changed && outcome == RealThread.Outcome.DONE && pending.call().answer().isThrown(Answer.ILLEGAL_STATE)) {
-            scene.notes.excused(difference, scene.step() + 1, pending.words(thread) + " " + pending.call().answer().told());
+        if (!changed && outcome == RealThread.Outcome.DONE && pending.call.answer().isThrown(Answer.ILLEGAL_STATE)) {
+            scene.notes.excused(difference, scene.step() + 1, pending.words(thread) + " " + pending.call.answer().told());
             return thread.fail(Answer.ILLEGAL_STATE);
         }
-        if (difference.isTheirs(at, pending.call(), changed)) {
+        if (difference.isTheirs(at, pending.call, changed)) {
             throw new AsTheJdk(excused);
         }
-        pending.awaits(row.method().ofPhaser() ? at.viewBefore() : 0);
+        pending.awaited = row.method().ofPhaser() ? at.viewBefore() : 0;
         return switch (outcome) {
             case ENTERED -> enter(thread, pending);
             case BLOCKED -> blocked(thread, pending);
@@ -135,13 +135,13 @@ final class Caller {
         Request request = new Request(method, Math.max(object, 0), row.number(thread.registers), time.real());
         Pending pending = new Pending(scene.tell(thread, request, time.transcribed()), row);
         scene.notes.asked();
-        pending.setTime(time);
+        pending.time = time;
         if (method.ofPhaser()) {
             boolean namesPhase = method.waitsForPhase() && !method.arrives();
-            pending.awaits(namesPhase ? row.number(thread.registers) : scene.view(scene.root(object)));
+            pending.awaited = namesPhase ? row.number(thread.registers) : scene.view(scene.root(object));
         }
         RealThread.Outcome outcome =
-            mayBlock(thread, pending) ? scene.settle(thread, pending.call()) : scene.comeBack(thread, pending.call());
+            mayBlock(thread, pending) ? scene.settle(thread, pending.call) : scene.comeBack(thread, pending.call);
         if (outcome == RealThread.Outcome.ENTERED) {
             return enter(thread, pending);
         }
@@ -158,7 +158,7 @@ final class Caller {
     private boolean mayBlock(ProgramThread thread, Pending pending) {
         Method method = pending.method();
         if (method.waitsForPhase() && !method.arrives()) {
-            return pending.awaited() == scene.view(scene.root(pending.object()));
+            return pending.awaited == scene.view(scene.root(pending.object()));
         }
         return method.waits() || method.registers() || method.lockedOutByAction() && scene.lockedOut(thread, pending.object());
     }
@@ -184,7 +184,7 @@ final class Caller {
         long real = realTime(scene.step(), until);
         long transcribed = transcribedTime(scene.step(), until);
         for (ProgramThread each : scene.threads) {
-            WaitTime other = each.pending == null ? WaitTime.NONE : each.pending.time();
+            WaitTime other = each.pending == null ? WaitTime.NONE : each.pending.time;
             if (other.runsOut() && other.expiry() < until) {
                 real = Math.max(real, other.left() + realTime(other.expiry(), until));
                 transcribed = Math.max(transcribed, other.transcribed() + transcribedTime(other.expiry(), until));
@@ -212,12 +212,12 @@ final class Caller {
         Method method = pending.method();
         thread.pending = pending;
         if (method.registers() || method.ofBarrier() && scene.lockedOut(thread, pending.object())) {
-            scene.note(Notes.Kind.HELD, pending.row().operation().word());
+            scene.note(Notes.Kind.HELD, pending.row.operation().word());
             return "idle";
         }
         if (!method.waits()) {
             scene.stuck(scene.real(thread), method.word + " blocks");
-        } else if (method.waitsForPhase() && pending.awaited() != scene.view(scene.root(pending.object()))) {
+        } else if (method.waitsForPhase() && pending.awaited != scene.view(scene.root(pending.object()))) {
             scene.odd(method.word + " waits for another phase");
         }
         return waits(thread, pending);
@@ -226,7 +226,7 @@ final class Caller {
     /** The thread waits from now on, as the trace tells it. */
     String waits(ProgramThread thread, Pending pending) {
         if (pending.method().waitsAtBarrier()) {
-            pending.waitsIn(scene.generation(pending.object()));
+            pending.generation = scene.generation(pending.object());
         }
         thread.pending = pending;
         thread.status = ProgramThread.Status.WAITS;
@@ -235,7 +235,7 @@ final class Caller {
 
     /** The real thread stands at the beginning of a routine or an action. */
     String enter(ProgramThread thread, Pending pending) {
-        Entered where = pending.call().takeEntered();
+        Entered where = pending.call.takeEntered();
         StackEntry.Kind kind = where.ofPhaser() ? StackEntry.Kind.ROUTINE : StackEntry.Kind.ACTION;
         thread.push(new StackEntry(kind, where.object(), thread.registers.clone(), thread.row, pending));
         thread.status = ProgramThread.Status.RUNS;
@@ -259,7 +259,7 @@ final class Caller {
         Pending pending = entry.pending();
         scene.holds.called(scene.step());
         scene.end(thread, throwing, throwing ? number : action || number == 0 ? 0 : 1);
-        RealThread.Outcome outcome = scene.comeBack(thread, pending.call());
+        RealThread.Outcome outcome = scene.comeBack(thread, pending.call);
         if (action) {
             scene.actionEnds(entry.number());
         }
@@ -273,7 +273,7 @@ final class Caller {
             scene.odd(pending.method().word + " waits behind its routine or action");
             return waits(thread, pending);
         }
-        if (throwing && pending.call().answer().equals(Answer.through(number))) {
+        if (throwing && pending.call.answer().equals(Answer.through(number))) {
             if (action) {
                 scene.broken(entry.number());
             }
@@ -288,9 +288,9 @@ final class Caller {
      * thread had to wait, and another choice shows the answer.
      */
     String answer(ProgramThread thread, Pending pending, boolean atOnce) {
-        Answer answer = pending.call().answer();
-        scene.notes.transcript.saw(thread.number, pending.call());
-        Answer given = scene.known.told(Situation.of(scene, thread, pending.row()), answer);
+        Answer answer = pending.call.answer();
+        scene.notes.transcript.saw(thread.number, pending.call);
+        Answer given = scene.known.told(Situation.of(scene, thread, pending.row), answer);
         if (!given.equals(answer)) {
             scene.notes.transcript.excuses(thread.number, answer, given);
         }
@@ -332,13 +332,13 @@ final class Caller {
             thread.interrupted = false;
         } else if (method.waitsAtBarrier() && atOnce && value == 0) {
             scene.tripped(pending.object());
-        } else if (method.waitsForPhase() && pending.released() && value == pending.viewAtRelease()
-            && value != pending.awaited()) {
+        } else if (method.waitsForPhase() && pending.released && value == pending.viewAtRelease
+            && value != pending.awaited) {
             told = scene.look(Method.GET_PHASE, scene.root(pending.object()));
             if (told != value) {
                 scene.note(Notes.Kind.TOLD_AGAIN, method.word + " answered " + value + " when it was released");
             }
         }
-        return thread.put(pending.row().operand(0), told);
+        return thread.put(pending.row.operand(0), told);
     }
 }

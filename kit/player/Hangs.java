@@ -14,7 +14,7 @@ final class Hangs extends Breakdown {
 
     @Override
     boolean mayBeSlowness() {
-        return !atStart();
+        return !atStart;
     }
 
     @Override

@@ -5,7 +5,7 @@ import java.util.List;
 
 /** A point in the search for a legal history: the state of the model, and how far each line of calls has come. */
 final class HistoryPoint {
-    private final Model model;
+    final Model model;
     private final int[] passed;
     private final boolean[] begun;
 
@@ -21,10 +21,6 @@ final class HistoryPoint {
 
     HistoryPoint copy() {
         return new HistoryPoint(model.copy(), passed.clone(), begun.clone());
-    }
-
-    Model model() {
-        return model;
     }
 
     /** What comes next in a line, or has begun; null at its end. */
@@ -66,7 +62,7 @@ final class HistoryPoint {
     boolean mayBegin(List<List<BurstEntry>> lines, BurstEntry entry) {
         for (int line = 0; line < passed.length; line++) {
             BurstEntry other = present(lines, line);
-            if (other != null && other.end() < entry.begin()) {
+            if (other != null && other.end() < entry.begin) {
                 return false;
             }
         }

@@ -12,6 +12,7 @@ import java.util.Comparator;
 import java.util.LinkedHashMap;
 import java.util.List;
 import java.util.Map;
+import java.util.Set;
 import java.util.concurrent.CompletableFuture;
 import java.util.concurrent.ConcurrentHashMap;
 import java.util.stream.Stream;
@@ -72,12 +73,12 @@ public final class Kit {
     private int passed;
     private int failed;
 
-    private Kit(Path repository, Path program) {
+    private Kit(Path repository, Path program) throws IOException {
         this.repository = repository;
         this.program = program;
         kit = repository.resolve("kit");
         vuthgal = new Vuthgal(program);
-        adapters = new WrongAdapters(kit.resolve("wrong"), "kit.wrong");
+        adapters = new WrongAdapters(kit.resolve("wrong"), "kit.wrong.WrongFactory");
     }
 
     /**
@@ -138,7 +139,7 @@ public final class Kit {
         play(right);
         Map<String, Body> wrong = new LinkedHashMap<>();
         wrong.put("wrong adapters for bursts", part -> bursts(part).checkAdapters(
-            new WrongAdapters(kit.resolve("wrong").resolve("burst"), "kit.wrong.burst")));
+            new WrongAdapters(kit.resolve("wrong").resolve("burst"), "kit.wrong.burst.UnderOneLock")));
         wrong.put("ports that lose interrupts",
             part -> bursts(part).checkLoseInterrupts(all.stream().filter(port -> port.bursts() == 0).toList()));
         if (!lockFree.isEmpty()) {
@@ -251,7 +252,7 @@ public final class Kit {
 
     private static String whatFails(Case each, Verdict verdict) {
         String trace = isTrace(each) ? "" : "its trace isn't Vuthgal's, as kit/traces shows; ";
-        return trace + verdict.words() + "; " + String.join("; ", verdict.notes().lines());
+        return trace + verdict.words() + "; " + String.join("; ", verdict.notes().lines);
     }
 
     // ---- differences
@@ -278,7 +279,7 @@ public final class Kit {
             part.take(name, verdict.trace().equals(jdk), "the JDK's trace isn't that of its .jdk:\n" + verdict.trace());
             part.take(name, !jdk.equals(ours.wanted()), "it shows no difference");
             Verdict told = known.judge(ours);
-            part.take(name, told.isSame(), "with --known it is " + told.words() + "; " + String.join("; ", told.notes().lines()));
+            part.take(name, told.isSame(), "with --known it is " + told.words() + "; " + String.join("; ", told.notes().lines));
         }
         part.to.println("differences: " + files.size() + " programs");
         checkRules(part);
@@ -289,18 +290,18 @@ public final class Kit {
         String behaviour = Files.readString(repository.resolve("docs/BEHAVIOUR.md"));
         String table = behaviour.substring(behaviour.indexOf("## Where the JDK differs"));
         for (KnownDifference difference : KnownDifferences.ALL.list) {
-            part.take(difference.row(), table.contains("| " + difference.row() + " |"), "there is no such row in BEHAVIOUR.md");
-            Path program = kit.resolve("differences").resolve(difference.program() + ".txt");
-            part.take(difference.row(), Files.exists(program), "there is no " + program);
-            Path nearly = kit.resolve("wrong").resolve(difference.nearly() + ".java");
-            part.take(difference.row(), Files.exists(nearly), "there is no " + nearly);
+            part.take(difference.row, table.contains("| " + difference.row + " |"), "there is no such row in BEHAVIOUR.md");
+            Path program = kit.resolve("differences").resolve(difference.program + ".txt");
+            part.take(difference.row, Files.exists(program), "there is no " + program);
+            String nearly = difference.nearly;
+            part.take(difference.row, adapters.names().contains(nearly), "there is no wrong adapter " + nearly);
         }
     }
 
     // ---- wrong adapters
 
-    private void checkWrongAdapters(Part part) throws IOException {
-        List<String> names = adapters.names();
+    private void checkWrongAdapters(Part part) {
+        Set<String> names = adapters.names();
         Map<String, String> finders = new ConcurrentHashMap<>();
         List<Learned> cases = longOnesLast();
         AtOnce.each(names, name -> {
@@ -364,7 +365,7 @@ public final class Kit {
             boolean none = verdict.kind() == Verdict.Kind.LEFT_OUT;
             leftOut[0] += none ? 1 : 0;
             part.take(played.each().name() + " by " + command, verdict.isSame() || none,
-                verdict.words() + "; " + String.join("; ", verdict.notes().lines()));
+                verdict.words() + "; " + String.join("; ", verdict.notes().lines));
             tellAgain(part, played.each().name() + " by the port", verdict);
             sums.add(verdict.notes());
             return true;

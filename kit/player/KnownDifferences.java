@@ -6,26 +6,11 @@ import java.util.Set;
 
 /** The documented differences that a play tells over. */
 final class KnownDifferences {
-    private static final KnownDifference COUNTS_AFTER_FORCE = new CountsAfterForce();
-
     /** All of them, for random programs. */
-    static final KnownDifferences ALL = new KnownDifferences(List.of(
-        new CallBlockedInRoutine(),
-        new NobodyRegisteredInRoutine(),
-        new NegativePartiesInRoutine(),
-        new OtherPhaseAwaitedInRoutine(),
-        new CallInTerminatedRoutine(),
-        new ArrivalInRoutine(),
-        new RefusedClimb(),
-        new LastArriveAndAwait(),
-        new TooManyOnceTerminated(),
-        COUNTS_AFTER_FORCE,
-        new OwnAwaitInAction(),
-        new OwnResetInAction(),
-        new OwnNumberWaitingInAction()));
+    static final KnownDifferences ALL = new KnownDifferences(List.of(KnownDifference.values()));
 
     /** For the cases of the set, which may end on a phaser that was forced. */
-    static final KnownDifferences COUNTS = new KnownDifferences(List.of(COUNTS_AFTER_FORCE));
+    static final KnownDifferences COUNTS = new KnownDifferences(List.of(KnownDifference.COUNTS_AFTER_FORCE));
 
     static final KnownDifferences NONE = new KnownDifferences(List.of());
 

@@ -116,7 +116,7 @@ final class LegalHistory {
     }
 
     private boolean explains() {
-        HistoryPoint begin = new HistoryPoint(history.burst().model(), lines.size());
+        HistoryPoint begin = new HistoryPoint(history.burst.model(), lines.size());
         return history.entries().size() <= FEW ? goesOn(begin) : DeepStack.ask(() -> goesOn(begin));
     }
 
@@ -149,18 +149,18 @@ final class LegalHistory {
      */
     private HistoryPoint silent(HistoryPoint at, int line) {
         BurstEntry entry = at.present(lines, line);
-        if (entry.step().interrupts() || isOpen(entry) || freedom.ofAnswer(entry)) {
+        if (entry.step.interrupts() || isOpen(entry) || freedom.ofAnswer(entry)) {
             return null;
         }
         if (at.hasBegun(line)) {
-            return at.model().inside(entry.thread()) == null ? released(at, line, entry) : null;
+            return at.model.inside(entry.thread) == null ? released(at, line, entry) : null;
         }
         if (!entry.request().method().looks() || !mayBegin(at, entry)) {
             return null;
         }
         HistoryPoint next = at.copy();
-        ModelOutcome outcome = next.model().begin(entry.thread(), entry.request());
-        if (outcome.kind() != ModelOutcome.Kind.ANSWERS || !matches(next.model(), entry, outcome.answer())) {
+        ModelOutcome outcome = next.model.begin(entry.thread, entry.request());
+        if (outcome.kind() != ModelOutcome.Kind.ANSWERS || !matches(next.model, entry, outcome.answer())) {
             return null;
         }
         next.passes(line);
@@ -202,8 +202,8 @@ final class LegalHistory {
 
     /** Whether it waits there, and nothing lets it go on. */
     private static boolean waits(HistoryPoint at, int line, BurstEntry entry) {
-        Model model = at.model();
-        int thread = entry.thread();
+        Model model = at.model;
+        int thread = entry.thread;
         boolean isLate = entry.request().method().timed() && entry.request().nanoseconds() < LONG;
         return at.hasBegun(line) && model.inside(thread) == null && !model.isReleased(thread) && !model.hearsInterrupt(thread)
             && !isLate;
@@ -229,7 +229,7 @@ final class LegalHistory {
         for (int line = 0; line < lines.size(); line++) {
             BurstEntry other = at.present(lines, line);
             boolean stands = other != null && other != entry && !at.hasBegun(line) && hasToWait(other);
-            if (stands && history.waited(other) > 0 && other.beganAt() + history.waited(other) / 4 < entry.beganAt()) {
+            if (stands && history.waited(other) > 0 && other.beganAt + history.waited(other) / 4 < entry.beganAt) {
                 return false;
             }
         }
@@ -241,22 +241,22 @@ final class LegalHistory {
             return false;
         }
         HistoryPoint next = at.copy();
-        if (entry.step().interrupts()) {
-            next.model().interrupt(entry.step().target());
+        if (entry.step.interrupts()) {
+            next.model.interrupt(entry.step.target());
             next.passes(line);
             return steps(next, entry);
         }
-        return follows(next, line, entry, next.model().begin(entry.thread(), entry.request()), false);
+        return follows(next, line, entry, next.model.begin(entry.thread, entry.request()), false);
     }
 
     /** What the model makes of a call's beginning, or of the end of its routine or action. */
     private boolean follows(HistoryPoint next, int line, BurstEntry entry, ModelOutcome outcome, boolean wasInside) {
-        boolean ran = !isFree(entry) && !entry.entered().isEmpty();
+        boolean ran = !isFree(entry) && !entry.entered.isEmpty();
         boolean possible = switch (outcome.kind()) {
             case HELD -> false;
-            case ANSWERS -> (wasInside || !ran) && matches(next.model(), entry, outcome.answer());
+            case ANSWERS -> (wasInside || !ran) && matches(next.model, entry, outcome.answer());
             case ENTERS -> wasEntered(entry, outcome.entered());
-            case WAITS -> (wasInside || !ran) && mayCome(next.model().waitsFor(entry.thread()), entry);
+            case WAITS -> (wasInside || !ran) && mayCome(next.model.waitsFor(entry.thread), entry);
         };
         if (!possible) {
             return false;
@@ -295,20 +295,20 @@ final class LegalHistory {
             return true;
         }
         if (!where.ofPhaser()) {
-            return entry.entered().equals(List.of(where));
+            return entry.entered.equals(List.of(where));
         }
-        return !history.burst().phasers().get(where.object()).asks() || history.wasAsked(where);
+        return !history.burst.phasers().get(where.object()).asks() || history.wasAsked(where);
     }
 
     // ---- ends
 
     private boolean ends(HistoryPoint at, int line, BurstEntry entry) {
-        int thread = entry.thread();
-        Model model = at.model();
+        int thread = entry.thread;
+        Model model = at.model;
         Entered inside = model.inside(thread);
         if (inside != null) {
             HistoryPoint next = at.copy();
-            return follows(next, line, entry, endInside(next.model(), thread, inside), true);
+            return follows(next, line, entry, endInside(next.model, thread, inside), true);
         }
         if (hasToWait(entry)) {
             return false;
@@ -319,22 +319,22 @@ final class LegalHistory {
 
     private ModelOutcome endInside(Model model, int thread, Entered inside) {
         if (inside.ofPhaser()) {
-            Burst.Phaser phaser = history.burst().phasers().get(inside.object());
+            Burst.Phaser phaser = history.burst.phasers().get(inside.object());
             return model.end(thread, phaser.policy().decide(inside.phase(), inside.parties()) ? 1 : 0, false);
         }
-        boolean fails = history.burst().barriers().get(inside.object()).fails();
+        boolean fails = history.burst.barriers().get(inside.object()).fails();
         return model.end(thread, fails ? Burst.FAILURE : 0, fails);
     }
 
     /** The point behind the end of a released wait; null where it wasn't released, or has another answer. */
     private HistoryPoint released(HistoryPoint at, int line, BurstEntry entry) {
-        if (!at.model().isReleased(entry.thread())) {
+        if (!at.model.isReleased(entry.thread)) {
             return null;
         }
         HistoryPoint next = at.copy();
-        ModelWait wait = next.model().waitsFor(entry.thread());
-        Answer answer = next.model().release(entry.thread());
-        if (!matches(next.model(), entry, answer) && !isPlainNumber(next.model(), entry, wait)) {
+        ModelWait wait = next.model.waitsFor(entry.thread);
+        Answer answer = next.model.release(entry.thread);
+        if (!matches(next.model, entry, answer) && !isPlainNumber(next.model, entry, wait)) {
             return null;
         }
         next.passes(line);
@@ -343,29 +343,29 @@ final class LegalHistory {
 
     private boolean leavesReleased(HistoryPoint at, int line, BurstEntry entry) {
         HistoryPoint next = released(at, line, entry);
-        return next != null && answers(next, entry, at.copy().model().release(entry.thread()));
+        return next != null && answers(next, entry, at.copy().model.release(entry.thread));
     }
 
     private boolean leavesInterrupted(HistoryPoint at, int line, BurstEntry entry) {
-        Model model = at.model();
+        Model model = at.model;
         boolean told = isFree(entry) || entry.answer().isThrown(Answer.INTERRUPTED);
         boolean secondLook = twoLooks && entry.request().method().ofPhaser();
-        if (!told || !model.hearsInterrupt(entry.thread()) || !secondLook && !model.mayLeave(entry.thread())) {
+        if (!told || !model.hearsInterrupt(entry.thread) || !secondLook && !model.mayLeave(entry.thread)) {
             return false;
         }
         HistoryPoint next = at.copy();
-        next.model().leaveInterrupted(entry.thread());
+        next.model.leaveInterrupted(entry.thread);
         next.passes(line);
         return answers(next, entry, Answer.thrown(Answer.INTERRUPTED));
     }
 
     private boolean leavesLate(HistoryPoint at, int line, BurstEntry entry) {
         boolean told = entry.request().method().timed() && (isFree(entry) || entry.answer().isThrown(Answer.TIMEOUT));
-        if (!told || !at.model().mayLeave(entry.thread()) || !at.mayBeLate(lines, entry)) {
+        if (!told || !at.model.mayLeave(entry.thread) || !at.mayBeLate(lines, entry)) {
             return false;
         }
         HistoryPoint next = at.copy();
-        next.model().leaveLate(entry.thread());
+        next.model.leaveLate(entry.thread);
         next.passes(line);
         return answers(next, entry, Answer.thrown(Answer.TIMEOUT));
     }
@@ -384,7 +384,7 @@ final class LegalHistory {
         return switch (entry.request().method()) {
             case GET_REGISTERED_PARTIES, GET_ARRIVED_PARTIES, GET_UNARRIVED_PARTIES ->
                 (model.isTerminated(entry.request().object())
-                    || entry.thread() != history.burst().looker() && history.burst().isInTree(entry.request().object()))
+                    || entry.thread != history.burst.looker() && history.burst.isInTree(entry.request().object()))
                 && entry.answer().kind() == Answer.Kind.VALUE;
             default -> false;
         };

@@ -42,9 +42,11 @@ final class Notes {
     private static final int MOST_NAMES = 5;
 
     private final Map<Kind, Integer> counts = new EnumMap<>(Kind.class);
-    private final Map<String, Integer> differences = new TreeMap<>();
-    private final Map<String, Integer> excused = new TreeMap<>();
-    private final List<String> lines = new ArrayList<>();
+    /** How often each documented difference was told over, by the name of its program. */
+    final Map<String, Integer> differences = new TreeMap<>();
+    /** How often a call was asked in a documented difference that the JDK isn't asked for, by the name of its program. */
+    final Map<String, Integer> excused = new TreeMap<>();
+    final List<String> lines = new ArrayList<>();
     private int asked;
     private int firstOdd;
     private String firstOddWords = "";
@@ -64,13 +66,13 @@ final class Notes {
     }
 
     void toldOver(KnownDifference difference, int step) {
-        differences.merge(difference.program(), 1, Integer::sum);
-        add(Kind.TOLD_OVER, step, difference.row());
+        differences.merge(difference.program, 1, Integer::sum);
+        add(Kind.TOLD_OVER, step, difference.row);
     }
 
     /** A call for which the JDK isn't asked was answered as here. */
     void excused(KnownDifference difference, int step, String what) {
-        excused.merge(difference.program(), 1, Integer::sum);
+        excused.merge(difference.program, 1, Integer::sum);
         add(Kind.EXCUSED, step, what);
     }
 
@@ -90,20 +92,6 @@ final class Notes {
     /** What that was; empty if nothing. */
     String firstOddWords() {
         return firstOddWords;
-    }
-
-    List<String> lines() {
-        return lines;
-    }
-
-    /** How often a call was asked in a documented difference that the JDK isn't asked for, by the name of its program. */
-    Map<String, Integer> excused() {
-        return excused;
-    }
-
-    /** How often each documented difference was told over, by the name of its program. */
-    Map<String, Integer> differences() {
-        return differences;
     }
 
     /** What is said of these cases, in which threads spin. */

@@ -71,25 +71,33 @@ final class Options {
     private static final int JOBS_WITH_POINTS = 4;
 
     private final List<Path> programs = new ArrayList<>();
-    private Path vuthgal = Path.of("bin/vuthgal");
-    private Path schedule;
-    private Path trace;
-    private Path keep;
-    private Path transcripts;
-    private Path report;
+    Path vuthgal = Path.of("bin/vuthgal");
+    /** The schedule of the one program that is named; null where none is named. */
+    Path schedule;
+    /** Where the trace is to be written; null for nowhere. */
+    Path trace;
+    /** Where scenarios that differ are kept; null for nowhere. */
+    Path keep;
+    /** Where transcripts are to be written; null for nowhere. */
+    Path transcripts;
+    /** Where all verdicts are to be written; null for nowhere. */
+    Path report;
     private boolean known;
     private boolean firstTry;
-    private boolean keepGoing;
-    private int random;
-    private long seed = 1;
+    boolean keepGoing;
+    /** How many scenarios of its own it plays. */
+    int random;
+    long seed = 1;
     /** 0 where nothing is said of it. */
     private int jobs;
-    private double patience = 1;
+    /** How many times as long as usual it waits. */
+    double patience = 1;
     private String burst;
     private long round = BurstOrder.EACH;
     private long seconds;
     private Set<String> kinds = Set.of();
-    private boolean listsKinds;
+    /** Whether the kinds of bursts are asked for. */
+    boolean listsKinds;
     private PointSeeds points = PointSeeds.NONE;
     private String factory = JdkFactory.class.getName();
     private String port;
@@ -246,11 +254,6 @@ final class Options {
         }
     }
 
-    /** Whether the kinds of bursts are asked for. */
-    boolean listsKinds() {
-        return listsKinds;
-    }
-
     /** The bursts that were asked for, or null. */
     BurstOrder bursts() throws Wrong, IOException {
         BurstOrder order = order();
@@ -325,52 +328,5 @@ final class Options {
     /** The one case or program that is named; null where it is a folder, or there are several. */
     Path one() {
         return programs.size() == 1 && !programs.get(0).toFile().isDirectory() ? programs.get(0) : null;
-    }
-
-    /** The schedule of the one program that is named; null where none is named. */
-    Path schedule() {
-        return schedule;
-    }
-
-    /** How many times as long as usual it waits. */
-    double patience() {
-        return patience;
-    }
-
-    Path vuthgal() {
-        return vuthgal;
-    }
-
-    /** Where the trace is to be written; null for nowhere. */
-    Path trace() {
-        return trace;
-    }
-
-    /** Where transcripts are to be written; null for nowhere. */
-    Path transcripts() {
-        return transcripts;
-    }
-
-    /** Where scenarios that differ are kept; null for nowhere. */
-    Path keep() {
-        return keep;
-    }
-
-    /** Where all verdicts are to be written; null for nowhere. */
-    Path report() {
-        return report;
-    }
-
-    /** How many scenarios of its own it plays. */
-    int random() {
-        return random;
-    }
-
-    long seed() {
-        return seed;
-    }
-
-    boolean keepGoing() {
-        return keepGoing;
     }
 }

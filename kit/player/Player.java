@@ -21,7 +21,7 @@ public final class Player {
     private Player(Options options, PrintStream to) {
         this.options = options;
         this.to = to;
-        vuthgal = new Vuthgal(options.vuthgal());
+        vuthgal = new Vuthgal(options.vuthgal);
     }
 
     public static void main(String[] words) throws IOException {
@@ -43,7 +43,7 @@ public final class Player {
     }
 
     private int run() throws IOException, Options.Wrong {
-        if (options.listsKinds()) {
+        if (options.listsKinds) {
             to.print(BurstKind.list());
             return 0;
         }
@@ -51,7 +51,7 @@ public final class Player {
         if (bursts != null) {
             return playBursts(bursts);
         }
-        if (options.random() > 0) {
+        if (options.random > 0) {
             return playRandom();
         }
         return options.one() != null ? playOne() : playAll();
@@ -59,30 +59,30 @@ public final class Player {
 
     private int playBursts(BurstOrder bursts) throws IOException, Options.Wrong {
         List<Stage> stages = options.stages();
-        Bursts played = new Bursts(stages, (long) (Bursts.PATIENT * options.patience()), options.keep(), to);
+        Bursts played = new Bursts(stages, (long) (Bursts.PATIENT * options.patience), options.keep, to);
         played.play(bursts);
         played.tell();
         stages.forEach(Stage::close);
-        if (options.report() != null) {
-            played.count().suite().write(options.report());
+        if (options.report != null) {
+            played.count.suite.write(options.report);
         }
-        return played.count().status();
+        return played.count.status();
     }
 
     private int playOne() throws IOException, Options.Wrong {
-        Case each = caseOf(options.one(), options.schedule());
+        Case each = caseOf(options.one(), options.schedule);
         Judge judge = options.judges().get(0).warm(word -> to.println(word.text()));
         Played played = Played.of(judge, each);
         judge.close();
         Verdict verdict = played.verdict();
         to.println(verdict.words() + verdict.triesInWords());
         to.println(verdict.notes().sums());
-        verdict.notes().lines().forEach(to::println);
+        verdict.notes().lines.forEach(to::println);
         if (verdict.notes().spins) {
             to.println(Notes.spinning(List.of(each.name())));
         }
-        if (options.trace() != null) {
-            Files.writeString(options.trace(), verdict.trace());
+        if (options.trace != null) {
+            Files.writeString(options.trace, verdict.trace());
         }
         Report report = new Report();
         report.add(played);
@@ -100,10 +100,10 @@ public final class Player {
     }
 
     private int playRandom() throws IOException, Options.Wrong {
-        Tally tally = new Tally(options.random(), options.keepGoing(), to);
-        RandomCases cases = new RandomCases(vuthgal, tally, options.keep(), to);
-        cases.play(options.judges(), options.seed(), options.random());
-        return end(tally.report(), tally.status());
+        Tally tally = new Tally(options.random, options.keepGoing, to);
+        RandomCases cases = new RandomCases(vuthgal, tally, options.keep, to);
+        cases.play(options.judges(), options.seed, options.random);
+        return end(tally.report, tally.status());
     }
 
     private int playAll() throws IOException, Options.Wrong {
@@ -111,7 +111,7 @@ public final class Player {
         for (Path place : options.programs()) {
             programs.addAll(named(place));
         }
-        Tally tally = new Tally(programs.size(), options.keepGoing(), to);
+        Tally tally = new Tally(programs.size(), options.keepGoing, to);
         Transcripts transcripts = new Transcripts();
         new Jobs<>(programs, (judge, each) -> Played.of(judge, Case.of(vuthgal, each.name(), each.file())))
             .tell(tally::before).run(options.judges(), played -> {
@@ -121,10 +121,10 @@ public final class Player {
                 return goesOn;
             });
         tally.tell();
-        if (options.transcripts() != null) {
-            transcripts.write(options.transcripts());
+        if (options.transcripts != null) {
+            transcripts.write(options.transcripts);
         }
-        return end(tally.report(), tally.status());
+        return end(tally.report, tally.status());
     }
 
     private static List<Named> named(Path place) throws IOException {
@@ -137,8 +137,8 @@ public final class Player {
     }
 
     private int end(Report report, int status) throws IOException {
-        if (options.report() != null) {
-            report.write(options.report());
+        if (options.report != null) {
+            report.write(options.report);
         }
         return status;
     }

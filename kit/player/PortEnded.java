@@ -15,6 +15,6 @@ final class PortEnded extends Breakdown {
 
     @Override
     boolean isEndless() {
-        return atStart();
+        return atStart;
     }
 }

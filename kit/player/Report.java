@@ -66,7 +66,7 @@ final class Report {
         }
         lines.add("was:       " + line(verdict.trace(), verdict.line()));
         lines.add("has to be: " + line(played.each().wanted(), verdict.line()));
-        lines.addAll(verdict.notes().lines());
+        lines.addAll(verdict.notes().lines);
         return String.join("\n", lines);
     }
 

@@ -106,7 +106,7 @@ final class StateText {
 
     private static boolean waitsAt(ProgramThread thread, int barrier) {
         Pending pending = thread.pending;
-        return thread.status == ProgramThread.Status.WAITS && !pending.call().done() && pending.method().waitsAtBarrier()
+        return thread.status == ProgramThread.Status.WAITS && !pending.call.done() && pending.method().waitsAtBarrier()
             && pending.object() == barrier;
     }
 }

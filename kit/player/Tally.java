@@ -13,7 +13,7 @@ final class Tally {
     private final int cases;
     private final boolean keepsGoing;
     private final PrintStream to;
-    private final Report report = new Report();
+    final Report report = new Report();
     private final Sums sums = new Sums();
     private final Map<String, Integer> whyLeftOut = new TreeMap<>();
     private final Map<String, Integer> differences = new TreeMap<>();
@@ -52,8 +52,8 @@ final class Tally {
         Verdict verdict = played.verdict();
         report.add(played);
         sums.add(verdict.notes());
-        verdict.notes().differences().forEach((program, count) -> differences.merge(program, count, Integer::sum));
-        verdict.notes().excused().forEach((program, count) -> excused.merge(program, count, Integer::sum));
+        verdict.notes().differences.forEach((program, count) -> differences.merge(program, count, Integer::sum));
+        verdict.notes().excused.forEach((program, count) -> excused.merge(program, count, Integer::sum));
         again += verdict.tries() > 1 ? 1 : 0;
         if (verdict.notes().spins) {
             spinning.add(played.each().name());
@@ -110,10 +110,6 @@ final class Tally {
             + (notPlayed > 0 ? ", " + notPlayed + " not played" : "")
             + (stuckBefore ? "; stuck before the first case" : "")
             + (again > 0 ? "; " + again + " played again with more patience" : ""));
-    }
-
-    Report report() {
-        return report;
     }
 
     int same() {

@@ -19,14 +19,14 @@ final class Waiter {
             scene.note(Notes.Kind.EARLY, pending.method().word);
             return "idle";
         }
-        if (!pending.call().done()) {
+        if (!pending.call.done()) {
             if (!leavesByInterrupt(pending)) {
                 return "idle";
             }
-            pending.setOwesInterrupt(false);
+            pending.owesInterrupt = false;
             scene.interrupt(thread);
             scene.holds.called(scene.step());
-            if (!scene.ends(scene.real(thread), pending.call(), scene.patience.bound())) {
+            if (!scene.ends(scene.real(thread), pending.call, scene.patience.bound())) {
                 scene.stuck(scene.real(thread), "an interrupt doesn't end " + pending.words(thread));
                 return "idle";
             }
@@ -37,7 +37,7 @@ final class Waiter {
 
     /** Whether its turn ends the wait by an interrupt. While an action runs nobody leaves the barrier. */
     private boolean leavesByInterrupt(Pending pending) {
-        return pending.owesInterrupt() && !actionRuns(pending);
+        return pending.owesInterrupt && !actionRuns(pending);
     }
 
     private boolean actionRuns(Pending pending) {
@@ -47,7 +47,7 @@ final class Waiter {
     boolean canExpire(ProgramThread thread) {
         Pending pending = thread.pending;
         return thread.status == ProgramThread.Status.WAITS && pending.method().timed()
-            && (!pending.call().done() || pending.expiredByItself()) && !pending.owesInterrupt() && !actionRuns(pending);
+            && (!pending.call.done() || pending.expiredByItself()) && !pending.owesInterrupt && !actionRuns(pending);
     }
 
     /**
@@ -59,18 +59,18 @@ final class Waiter {
         if (scene.first) {
             scene.plan.expires(thread, scene.step());
             scene.interrupt(thread);
-            if (!scene.ends(scene.real(thread), pending.call(), scene.patience.bound())) {
+            if (!scene.ends(scene.real(thread), pending.call, scene.patience.bound())) {
                 scene.stuck(scene.real(thread), "an interrupt doesn't end " + pending.words(thread));
                 return "idle";
             }
-            if (pending.call().answer().isThrown(Answer.INTERRUPTED)) {
-                pending.call().finish(Answer.thrown(Answer.TIMEOUT));
+            if (pending.call.answer().isThrown(Answer.INTERRUPTED)) {
+                pending.call.finish(Answer.thrown(Answer.TIMEOUT));
             }
         } else if (!pending.expires()) {
             scene.odd("an expiry that the first play hasn't seen");
             return "idle";
         }
-        if (!scene.ends(scene.real(thread), pending.call(), pending.time().real() + scene.patience.bound())) {
+        if (!scene.ends(scene.real(thread), pending.call, pending.time.real() + scene.patience.bound())) {
             scene.stuck(scene.real(thread), pending.words(thread) + " doesn't expire");
             return "idle";
         }
@@ -80,7 +80,7 @@ final class Waiter {
     /** A turn of a thread inside a call that was held, or locked out by an action, when it began. */
     String heldTurn(ProgramThread thread) {
         Pending pending = thread.pending;
-        switch (scene.settle(thread, pending.call())) {
+        switch (scene.settle(thread, pending.call)) {
             case ENTERED -> {
                 return caller.enter(thread, pending);
             }
@@ -109,9 +109,9 @@ final class Waiter {
         }
         thread.interrupted = true;
         Pending pending = thread.pending;
-        boolean waits = thread.status == ProgramThread.Status.WAITS && !pending.call().done();
+        boolean waits = thread.status == ProgramThread.Status.WAITS && !pending.call.done();
         if (waits && pending.method().interruptible() && !actionRuns(pending)) {
-            pending.setOwesInterrupt(true);
+            pending.owesInterrupt = true;
         } else {
             scene.interrupt(thread);
         }
@@ -122,7 +122,7 @@ final class Waiter {
         stuckNow = false;
         for (ProgramThread thread : scene.threads) {
             Pending pending = thread.pending;
-            if (pending != null && !pending.released()) {
+            if (pending != null && !pending.released) {
                 followRelease(thread, pending);
             }
         }
@@ -130,7 +130,7 @@ final class Waiter {
 
     private void followRelease(ProgramThread thread, Pending pending) {
         boolean waits = thread.status == ProgramThread.Status.WAITS;
-        if (!pending.call().done()) {
+        if (!pending.call.done()) {
             if (!mustComeOut(pending, waits)) {
                 return;
             }
@@ -138,17 +138,17 @@ final class Waiter {
                 followRegistration(thread, pending);
                 return;
             }
-            boolean out = stuckNow ? pending.call().done()
-                : scene.ends(scene.real(thread), pending.call(), scene.patience.bound());
+            boolean out = stuckNow ? pending.call.done()
+                : scene.ends(scene.real(thread), pending.call, scene.patience.bound());
             if (!out) {
                 stuckNow = true;
-                scene.stuck(scene.real(thread), "t" + thread.number + " is never released from " + pending.call().request.words());
-                pending.release();
+                scene.stuck(scene.real(thread), "t" + thread.number + " is never released from " + pending.call.request.words());
+                pending.released = true;
                 return;
             }
         }
         if (waits) {
-            if (pending.call().answer().kind() == Answer.Kind.VALUE && !mustComeOut(pending, true)) {
+            if (pending.call.answer().kind() == Answer.Kind.VALUE && !mustComeOut(pending, true)) {
                 scene.odd(pending.words(thread) + " ends too early");
             }
             comesOut(thread);
@@ -162,34 +162,34 @@ final class Waiter {
             return true;        // it was slow, and looked as if it waited
         }
         if (method.ofPhaser()) {
-            return scene.view(scene.root(pending.object())) != pending.awaited();
+            return scene.view(scene.root(pending.object())) != pending.awaited;
         }
         if (actionRuns(pending)) {
             return false;
         }
-        return waits ? scene.generation(pending.object()) != pending.generation() : !method.waitsAtBarrier();
+        return waits ? scene.generation(pending.object()) != pending.generation : !method.waitsAtBarrier();
     }
 
     /** A held registration goes on when a phase has ended, but another phase end may hold it again. */
     private void followRegistration(ProgramThread thread, Pending pending) {
-        if (scene.real(thread).done(pending.call(), 2 * scene.patience.expiry())) {
-            scene.notes.transcript.saw(thread.number, pending.call());
+        if (scene.real(thread).done(pending.call, 2 * scene.patience.expiry())) {
+            scene.notes.transcript.saw(thread.number, pending.call);
         } else {
-            pending.awaits(scene.view(scene.root(pending.object())));
+            pending.awaited = scene.view(scene.root(pending.object()));
         }
     }
 
     private void comesOut(ProgramThread thread) {
         Pending pending = thread.pending;
-        pending.release();
+        pending.released = true;
         if (!pending.expiredByItself()) {
-            scene.notes.transcript.saw(thread.number, pending.call());
+            scene.notes.transcript.saw(thread.number, pending.call);
         }
         if (pending.method().waitsForPhase()) {
-            pending.releasedAt(scene.look(Method.GET_PHASE, scene.root(pending.object())));
+            pending.viewAtRelease = scene.look(Method.GET_PHASE, scene.root(pending.object()));
         }
-        if (pending.owesInterrupt()) {
-            pending.setOwesInterrupt(false);
+        if (pending.owesInterrupt) {
+            pending.owesInterrupt = false;
             scene.interrupt(thread);
         }
     }
@@ -198,8 +198,8 @@ final class Waiter {
     boolean isReady(ProgramThread thread) {
         Pending pending = thread.pending;
         if (thread.status == ProgramThread.Status.WAITS) {
-            return pending.call().done() || leavesByInterrupt(pending) || canExpire(thread);
+            return pending.call.done() || leavesByInterrupt(pending) || canExpire(thread);
         }
-        return pending.call().done() || !pending.method().registers() && !actionRuns(pending);
+        return pending.call.done() || !pending.method().registers() && !actionRuns(pending);
     }
 }

@@ -5,34 +5,56 @@ import java.lang.reflect.Modifier;
 import java.nio.file.Files;
 import java.nio.file.Path;
 import java.util.List;
+import java.util.Set;
+import java.util.SortedMap;
+import java.util.TreeMap;
 import java.util.stream.Stream;
 
-/** The adapters of a folder, each a class of the package {@code within}. */
-record WrongAdapters(Path folder, String within) {
-    List<String> names() throws IOException {
+/** The wrong adapters of a folder, by their names: each is a class inside one of those whose names begin with {@code Wrong}. */
+final class WrongAdapters {
+    final List<Path> sources;
+    private final SortedMap<String, Class<?>> classes = new TreeMap<>();
+    private final Class<?> maker;
+
+    /** {@code maker} names the factory in their package that makes wrong objects by an adapter. */
+    WrongAdapters(Path folder, String maker) throws IOException {
+        this.maker = classOf(maker);
         try (Stream<Path> files = Files.list(folder)) {
-            return files.map(file -> file.getFileName().toString()).filter(name -> name.endsWith(".java"))
-                .map(name -> name.replace(".java", "")).filter(name -> !name.equals("package-info"))
-                .filter(name -> isAdapter(classOf(name))).sorted().toList();
+            sources = files.filter(file -> file.getFileName().toString().matches("Wrong.*\\.java")).toList();
+        }
+        for (Path source : sources) {
+            Class<?> subject = classOf(this.maker.getPackageName() + "." + source.getFileName().toString().replace(".java", ""));
+            Stream.of(subject.getDeclaredClasses()).filter(each -> !Modifier.isAbstract(each.getModifiers()))
+                .forEach(each -> classes.put(each.getSimpleName(), each));
         }
     }
 
-    Stage stage(String name) {
+    /** By its name, since who compiles the player may not have it. */
+    private static Class<?> classOf(String name) {
         try {
-            return new JvmStage((Factory) classOf(name).getDeclaredConstructor().newInstance());
-        } catch (ReflectiveOperationException none) {
+            return Class.forName(name);
+        } catch (ClassNotFoundException none) {
             throw new IllegalStateException(none);
         }
     }
 
-    private static boolean isAdapter(Class<?> adapter) {
-        return Factory.class.isAssignableFrom(adapter) && !Modifier.isAbstract(adapter.getModifiers());
+    Set<String> names() {
+        return classes.keySet();
     }
 
-    private Class<?> classOf(String name) {
+    Stage stage(String name) {
+        return stage(classes.get(name));
+    }
+
+    /** What the maker makes without an adapter. */
+    Stage right() {
+        return stage(maker);
+    }
+
+    private Stage stage(Class<?> adapter) {
         try {
-            return Class.forName(within + "." + name);
-        } catch (ClassNotFoundException none) {
+            return new JvmStage((Factory) maker.getConstructor(Class.class).newInstance(adapter));
+        } catch (ReflectiveOperationException none) {
             throw new IllegalStateException(none);
         }
     }

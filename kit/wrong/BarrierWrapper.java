@@ -6,10 +6,16 @@ import kit.player.BarrierUnderTest;
 
 /** A barrier that hands all to a right one; a wrong one overrides what it has misunderstood. */
 class BarrierWrapper implements BarrierUnderTest {
-    final BarrierUnderTest right;
+    BarrierUnderTest right;
+    Runnable action;
 
-    BarrierWrapper(BarrierUnderTest right) {
-        this.right = right;
+    /** What the right one runs when all have arrived, or null. */
+    Runnable run() {
+        return action == null ? null : this::act;
+    }
+
+    void act() {
+        action.run();
     }
 
     @Override

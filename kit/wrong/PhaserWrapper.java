@@ -1,16 +1,29 @@
 package kit.wrong;
 
 import java.util.concurrent.TimeoutException;
+import kit.player.Factory.OnAdvance;
 import kit.player.PhaserUnderTest;
 
 /** A phaser that hands all to a right one; a wrong one overrides what it has misunderstood. */
 class PhaserWrapper implements PhaserUnderTest {
-    final PhaserUnderTest right;
-    final PhaserWrapper parent;
+    PhaserUnderTest right;
+    PhaserWrapper parent;
+    /** What the program has put in the place of the class's own onAdvance, or null. */
+    OnAdvance routine;
 
-    PhaserWrapper(PhaserUnderTest right, PhaserWrapper parent) {
+    /** The right one, and the wrapper of its parent, are there: no call comes sooner. */
+    void standBefore(PhaserUnderTest right, PhaserWrapper parent) {
         this.right = right;
         this.parent = parent;
+    }
+
+    /** What the right one asks when a phase ends; null where its own onAdvance stays. */
+    OnAdvance asked() {
+        return routine == null ? null : this::onAdvance;
+    }
+
+    boolean onAdvance(int phase, int parties) {
+        return routine.onAdvance(phase, parties);
     }
 
     @Override public int register() { return right.register(); }

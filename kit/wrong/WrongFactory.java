@@ -1,39 +1,53 @@
 package kit.wrong;
 
+import java.lang.reflect.Constructor;
+import java.util.stream.Stream;
 import kit.player.BarrierUnderTest;
 import kit.player.Factory;
 import kit.player.JdkFactory;
 import kit.player.PhaserUnderTest;
 
-/** Makes the JDK's objects, with one misunderstanding put before them. */
-abstract class WrongFactory implements Factory {
+/** Makes the JDK's objects, with the misunderstanding of an adapter put before them. */
+public final class WrongFactory implements Factory {
     private final JdkFactory jdk = new JdkFactory();
+    private final Class<?> adapter;
 
-    PhaserWrapper wrong(PhaserUnderTest right, PhaserWrapper parent) {
-        return new PhaserWrapper(right, parent);
+    /** By the adapter that the variable FAULT names, as {@code WrongArrivals$LeavingOnlyArrives}, or without one. */
+    public WrongFactory() throws ClassNotFoundException {
+        this(Class.forName("kit.wrong." + System.getenv().getOrDefault("FAULT", "WrongFactory")));
     }
 
-    BarrierUnderTest wrong(BarrierUnderTest right) {
-        return new BarrierWrapper(right);
+    public WrongFactory(Class<?> adapter) {
+        this.adapter = adapter;
     }
 
-    /** {@code right} is null where the class's own onAdvance stays. */
-    OnAdvance wrong(OnAdvance right) {
-        return right;
-    }
-
-    Runnable wrong(Runnable right) {
-        return right;
+    /** An object of the adapter, or of a class inside it, if that is a {@code right}; else the right one itself. */
+    public static <T> T make(Class<T> right, Class<?> adapter) {
+        Class<?> made = Stream.concat(Stream.of(adapter), Stream.of(adapter.getDeclaredClasses()))
+            .filter(right::isAssignableFrom).findFirst().orElse(right);
+        try {
+            Constructor<?> constructor = made.getDeclaredConstructor();
+            constructor.setAccessible(true);
+            return right.cast(constructor.newInstance());
+        } catch (ReflectiveOperationException none) {
+            throw new IllegalStateException(none);
+        }
     }
 
     @Override
     public PhaserUnderTest phaser(PhaserUnderTest parent, int parties, int firstPhase, OnAdvance onAdvance) {
         PhaserWrapper above = (PhaserWrapper) parent;
-        return wrong(jdk.phaser(above == null ? null : above.right, parties, firstPhase, wrong(onAdvance)), above);
+        PhaserWrapper phaser = make(PhaserWrapper.class, adapter);
+        phaser.routine = onAdvance;
+        phaser.standBefore(jdk.phaser(above == null ? null : above.right, parties, firstPhase, phaser.asked()), above);
+        return phaser;
     }
 
     @Override
     public BarrierUnderTest barrier(int parties, Runnable action) {
-        return wrong(jdk.barrier(parties, action == null ? null : wrong(action)));
+        BarrierWrapper barrier = make(BarrierWrapper.class, adapter);
+        barrier.action = action;
+        barrier.right = jdk.barrier(parties, barrier.run());
+        return barrier;
     }
 }

@@ -2,12 +2,10 @@ package kit.wrong.burst;
 
 import java.util.concurrent.BrokenBarrierException;
 import java.util.concurrent.TimeoutException;
-import java.util.concurrent.locks.Condition;
-import java.util.concurrent.locks.ReentrantLock;
 import kit.player.BarrierUnderTest;
 
 /** A right barrier over one lock, under which the action runs too; a wrong one overrides what it has misunderstood. */
-class LockedBarrier implements BarrierUnderTest {
+class LockedBarrier extends Locked implements BarrierUnderTest {
     /** The arrivals between two ends, and how they ended. */
     static final class Generation {
         private boolean tripped;
@@ -22,41 +20,19 @@ class LockedBarrier implements BarrierUnderTest {
         }
     }
 
-    /** Fair, so that others come in between where a call takes it twice. */
-    private final ReentrantLock lock = new ReentrantLock(true);
-    private final Condition changed = lock.newCondition();
-    private final int parties;
-    private final Runnable action;
+    private int parties;
+    private Runnable action;
     private volatile Generation generation = new Generation();
     private volatile int waiting;
     private Thread runner;
 
-    LockedBarrier(int parties, Runnable action) {
-        this.parties = parties;
-        this.action = action;
+    final LockedBarrier begin(int ofParties, Runnable withAction) {
+        parties = ofParties;
+        action = withAction;
+        return this;
     }
 
     // ---- for those that are wrong
-
-    final void lock() {
-        lock.lock();
-    }
-
-    final void unlock() {
-        lock.unlock();
-    }
-
-    final void sleep() throws InterruptedException {
-        changed.await();
-    }
-
-    final void sleepUninterruptibly() {
-        changed.awaitUninterruptibly();
-    }
-
-    final void wakeAll() {
-        changed.signalAll();
-    }
 
     final Generation present() {
         return generation;
@@ -64,14 +40,6 @@ class LockedBarrier implements BarrierUnderTest {
 
     final int nextIndex() {
         return parties - 1 - waiting;
-    }
-
-    /** A waiter has looked, and sleeps next; the lock is held. */
-    void fallsAsleep() {
-    }
-
-    /** A waiter woke up, maybe for nothing, and hasn't looked yet; {@code left} is what is left of its time. */
-    void wakesUp(boolean timed, long left) throws InterruptedException, TimeoutException {
     }
 
     /** A waiter finds that its generation is over, and comes out. */
@@ -99,14 +67,10 @@ class LockedBarrier implements BarrierUnderTest {
         }
     }
 
-    long left(long began, long nanoseconds) {
-        return nanoseconds - (System.nanoTime() - began);
-    }
-
     final void breakIt() {
         generation.broken = true;
         waiting = 0;
-        changed.signalAll();
+        wakeAll();
     }
 
     // ---- the calls
@@ -127,7 +91,7 @@ class LockedBarrier implements BarrierUnderTest {
 
     int await(boolean timed, long nanoseconds) throws InterruptedException, BrokenBarrierException, TimeoutException {
         long began = System.nanoTime();
-        lock.lock();
+        lock();
         try {
             Generation mine = generation;
             meets(mine);
@@ -143,7 +107,7 @@ class LockedBarrier implements BarrierUnderTest {
             waiting++;
             return waitForEnd(mine, index, timed, began, nanoseconds);
         } finally {
-            lock.unlock();
+            unlock();
         }
     }
 
@@ -168,7 +132,7 @@ class LockedBarrier implements BarrierUnderTest {
     final void renew() {
         generation = new Generation();
         waiting = 0;
-        changed.signalAll();
+        wakeAll();
     }
 
     private int waitForEnd(Generation mine, int index, boolean timed, long began, long nanoseconds)
@@ -182,57 +146,32 @@ class LockedBarrier implements BarrierUnderTest {
                 breakIt();
                 throw new TimeoutException();
             }
-            fallsAsleep();
-            sleep(timed, left(began, nanoseconds));
-            wakesUp(timed, left(began, nanoseconds));
+            sleep(timed, began, nanoseconds);
         } while (!mine.isOver());
         return comesOut(mine, index);
     }
 
-    /** An interrupt stays, to be looked at. */
-    private void sleep(boolean timed, long nanoseconds) {
-        try {
-            if (timed) {
-                changed.awaitNanos(nanoseconds);
-            } else {
-                changed.await();
-            }
-        } catch (InterruptedException interrupted) {
-            Thread.currentThread().interrupt();
-        }
-    }
-
     @Override
     public void reset() {
-        lock.lock();
+        lock();
         try {
             if (waiting > 0) {
                 breakIt();
             }
             renew();
         } finally {
-            lock.unlock();
+            unlock();
         }
     }
 
     @Override
     public boolean isBroken() {
-        lock.lock();
-        try {
-            return generation.broken;
-        } finally {
-            lock.unlock();
-        }
+        return underLock(() -> generation.broken);
     }
 
     @Override
     public int getNumberWaiting() {
-        lock.lock();
-        try {
-            return runner == Thread.currentThread() ? parties : waiting;
-        } finally {
-            lock.unlock();
-        }
+        return underLock(() -> runner == Thread.currentThread() ? parties : waiting);
     }
 
     @Override

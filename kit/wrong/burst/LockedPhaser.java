@@ -1,54 +1,36 @@
 package kit.wrong.burst;
 
 import java.util.concurrent.TimeoutException;
-import java.util.concurrent.locks.Condition;
 import java.util.concurrent.locks.ReentrantLock;
 import kit.player.Factory;
 import kit.player.PhaserUnderTest;
 
 /** A right root over one lock; a wrong one overrides what it has misunderstood. */
-class LockedPhaser implements PhaserUnderTest {
+class LockedPhaser extends Locked implements PhaserUnderTest {
     private static final int MOST_PARTIES = 65535;
 
-    private final ReentrantLock lock;
-    private final Condition changed;
-    private final Factory.OnAdvance asked;
+    private Factory.OnAdvance asked;
     private volatile int parties;
     private volatile int unarrived;
     private volatile int phase;
     private volatile boolean terminated;
     private volatile boolean turned;
 
-    /** With a fair lock, so that others come in between where a call takes it twice. */
-    LockedPhaser(int parties, Factory.OnAdvance asked) {
-        this(parties, asked, new ReentrantLock(true));
+    LockedPhaser() {
     }
 
-    LockedPhaser(int parties, Factory.OnAdvance asked, ReentrantLock lock) {
-        this.parties = parties;
-        this.asked = asked;
-        this.lock = lock;
-        changed = lock.newCondition();
-        unarrived = parties;
+    LockedPhaser(ReentrantLock lock) {
+        super(lock);
+    }
+
+    final LockedPhaser begin(int ofParties, Factory.OnAdvance toAsk) {
+        parties = ofParties;
+        unarrived = ofParties;
+        asked = toAsk;
+        return this;
     }
 
     // ---- for those that are wrong
-
-    final void lock() {
-        lock.lock();
-    }
-
-    final void unlock() {
-        lock.unlock();
-    }
-
-    final void wakeAll() {
-        changed.signalAll();
-    }
-
-    final void sleep() {
-        changed.awaitUninterruptibly();
-    }
 
     final int view() {
         int now = phase;
@@ -84,19 +66,6 @@ class LockedPhaser implements PhaserUnderTest {
         unarrived = count;
     }
 
-    /** A waiter has looked, and sleeps next; the lock is held. */
-    void fallsAsleep() {
-    }
-
-    /** A waiter woke up, maybe for nothing, and hasn't looked yet; {@code left} is what is left of its time. */
-    void wakesUp(boolean timed, long left) throws InterruptedException, TimeoutException {
-    }
-
-    /** What is left of a time that began at {@code began}. */
-    long left(long began, long nanoseconds) {
-        return nanoseconds - (System.nanoTime() - began);
-    }
-
     /** A phase has ended; the lock is held. */
     void ended() {
     }
@@ -117,10 +86,10 @@ class LockedPhaser implements PhaserUnderTest {
         if (count < 0) {
             throw new IllegalArgumentException();
         }
-        lock.lock();
+        lock();
         try {
             while (count > 0 && !terminated && parties + (long) count <= MOST_PARTIES && turned) {
-                changed.awaitUninterruptibly();
+                sleep();
             }
             if (count > 0 && !terminated) {
                 if (parties + (long) count > MOST_PARTIES) {
@@ -131,7 +100,7 @@ class LockedPhaser implements PhaserUnderTest {
             }
             return view();
         } finally {
-            lock.unlock();
+            unlock();
         }
     }
 
@@ -155,7 +124,7 @@ class LockedPhaser implements PhaserUnderTest {
     int arrive(boolean leaves) {
         int now;
         int left;
-        lock.lock();
+        lock();
         try {
             if (terminated) {
                 return view();
@@ -177,15 +146,15 @@ class LockedPhaser implements PhaserUnderTest {
             }
             turned = true;
         } finally {
-            lock.unlock();
+            unlock();
         }
         boolean terminates = asked.onAdvance(now, left);
-        lock.lock();
+        lock();
         try {
             end(terminates);
             return now;
         } finally {
-            lock.unlock();
+            unlock();
         }
     }
 
@@ -196,7 +165,7 @@ class LockedPhaser implements PhaserUnderTest {
             unarrived = parties;
             turned = false;
             ended();
-            changed.signalAll();
+            wakeAll();
         }
     }
 
@@ -207,15 +176,12 @@ class LockedPhaser implements PhaserUnderTest {
         if (awaited < 0) {
             return awaited;
         }
-        lock.lock();
-        try {
+        return underLock(() -> {
             while (view() == awaited) {
-                changed.awaitUninterruptibly();
+                sleep();
             }
             return view();
-        } finally {
-            lock.unlock();
-        }
+        });
     }
 
     @Override
@@ -234,7 +200,7 @@ class LockedPhaser implements PhaserUnderTest {
 
     int await(int awaited, boolean timed, long nanoseconds) throws InterruptedException, TimeoutException {
         long began = System.nanoTime();
-        lock.lock();
+        lock();
         try {
             while (awaited >= 0 && view() == awaited) {
                 if (Thread.interrupted()) {
@@ -243,26 +209,11 @@ class LockedPhaser implements PhaserUnderTest {
                 if (timed && left(began, nanoseconds) <= 0) {
                     throw new TimeoutException();
                 }
-                fallsAsleep();
-                sleep(timed, left(began, nanoseconds));
-                wakesUp(timed, left(began, nanoseconds));
+                sleep(timed, began, nanoseconds);
             }
             return awaited < 0 ? awaited : view();
         } finally {
-            lock.unlock();
-        }
-    }
-
-    /** An interrupt stays, to be looked at. */
-    private void sleep(boolean timed, long nanoseconds) {
-        try {
-            if (timed) {
-                changed.awaitNanos(nanoseconds);
-            } else {
-                changed.await();
-            }
-        } catch (InterruptedException interrupted) {
-            Thread.currentThread().interrupt();
+            unlock();
         }
     }
 
@@ -270,23 +221,15 @@ class LockedPhaser implements PhaserUnderTest {
 
     @Override
     public void forceTermination() {
-        lock.lock();
-        try {
-            terminated = true;
-            changed.signalAll();
-        } finally {
-            lock.unlock();
-        }
+        lock();
+        terminated = true;
+        wakeAll();
+        unlock();
     }
 
     @Override
     public int getPhase() {
-        lock.lock();
-        try {
-            return view();
-        } finally {
-            lock.unlock();
-        }
+        return underLock(this::view);
     }
 
     @Override
@@ -296,22 +239,12 @@ class LockedPhaser implements PhaserUnderTest {
 
     @Override
     public int getArrivedParties() {
-        lock.lock();
-        try {
-            return terminated ? parties : parties - unarrived;
-        } finally {
-            lock.unlock();
-        }
+        return underLock(() -> terminated ? parties : parties - unarrived);
     }
 
     @Override
     public int getUnarrivedParties() {
-        lock.lock();
-        try {
-            return terminated ? 0 : unarrived;
-        } finally {
-            lock.unlock();
-        }
+        return underLock(() -> terminated ? 0 : unarrived);
     }
 
     @Override

@@ -7,16 +7,17 @@ import kit.player.PhaserUnderTest;
 class TieredChild implements PhaserUnderTest {
     private static final int MOST_PARTIES = 65535;
 
-    private final PhaserUnderTest parent;
+    private PhaserUnderTest parent;
     private int parties;
     private volatile int unarrived;
     private int seen;
 
-    TieredChild(PhaserUnderTest parent, int parties) {
-        this.parent = parent;
-        this.parties = parties;
-        unarrived = parties;
+    final TieredChild begin(PhaserUnderTest above, int ofParties) {
+        parent = above;
+        parties = ofParties;
+        unarrived = ofParties;
         seen = parties > 0 ? parent.register() : parent.getPhase();
+        return this;
     }
 
     /** Whether the arrival that left so many unarrived was the last; the lock isn't held any more. */
