@@ -38,9 +38,7 @@ final class BreakBursts {
     }
 
     private static void waiters(BurstMaker make, int barrier, int count, int often) {
-        for (int waiter = 0; waiter < count; waiter++) {
-            make.thread(BurstMaker.times(make.between(1, often), await(barrier)));
-        }
+        make.threads(count, () -> BurstMaker.times(make.between(1, often), await(barrier)));
     }
 
     private static void interrupts(BurstMaker make) {
@@ -99,9 +97,7 @@ final class BreakBursts {
                 breaks.add(await(barrier));
             }
         }
-        for (int waiter = 0; waiter < parties - 2; waiter++) {
-            make.thread(comes);
-        }
+        make.threads(parties - 2, () -> comes);
         make.thread(breaks);
     }
 
@@ -109,9 +105,8 @@ final class BreakBursts {
     private static void timeThatBreaks(BurstMaker make) {
         int parties = make.between(3, 4);
         int barrier = make.barrier(parties);
-        for (int waiter = 0; waiter < parties - 1; waiter++) {
-            make.thread(BurstMaker.timed(Method.AWAIT_FOR, barrier, 0, make.between(1, 900) * 1_000L));
-        }
+        make.threads(parties - 1,
+            () -> List.of(BurstMaker.timed(Method.AWAIT_FOR, barrier, 0, make.between(1, 900) * 1_000L)));
         make.thread(BurstMaker.call(Method.IS_BROKEN, barrier), BurstMaker.call(Method.GET_NUMBER_WAITING, barrier));
     }
 

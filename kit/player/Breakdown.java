@@ -13,8 +13,12 @@ abstract class Breakdown extends RuntimeException {
     }
 
     /** Whether another try may come to something else: a slow machine, and no more, could look like this. */
-    abstract boolean mayBeSlowness();
+    boolean mayBeSlowness() {
+        return false;
+    }
 
     /** Whether a run of such plays has no end in sight. */
-    abstract boolean isEndless();
+    boolean isEndless() {
+        return false;
+    }
 }

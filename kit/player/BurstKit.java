@@ -14,7 +14,10 @@ import java.util.concurrent.ConcurrentHashMap;
 import java.util.function.Function;
 import java.util.regex.Pattern;
 
-/** The part of {@code kit/run} about bursts: the model that judges them, the JDK, the adapters that they have to find, ports. */
+/**
+ * The part of {@code kit/run} about bursts: the model that judges them, the JDK, the adapters that they have to find,
+ * ports.
+ */
 final class BurstKit {
     private static final int SCENARIOS = 100;
     private static final int ROUNDS_ON_THE_JDK = 2_000;
@@ -25,11 +28,15 @@ final class BurstKit {
     /** What hangs among so many is told in few lines. */
     private static final int RESETS = 2_200;
     private static final int FEW_LINES = 20;
-    /** A race is a matter of chance, and of free processors: what the bursts of one seed don't find, those of another may. */
+    /**
+     * A race is a matter of chance, and of free processors: what the bursts of one seed don't find, those of another
+     * may.
+     */
     private static final int SEEDS_TO_FIND = 32;
     /** What is wrong may be taken to wait for ever sooner, if it is at rest then. */
     private static final long IMPATIENT = 200_000_000L;
-    private static final Pattern FOUND_BY = Pattern.compile("<p>Found by ([\\w-]+).*\\R +\\*/\\R +static final class (\\w+)");
+    private static final Pattern FOUND_BY =
+        Pattern.compile("<p>Found by ([\\w-]+).*\\R +\\*/\\R +static final class (\\w+)");
 
     private final Vuthgal vuthgal;
     private final Part part;
@@ -219,14 +226,17 @@ final class BurstKit {
         bursts.tell();
     }
 
-    /** Each wrong adapter is found by some burst, best of the kind that its comment names, and the right one by none. */
+    /**
+     * Each wrong adapter is found by some burst, best of the kind that its comment names, and the right one by none.
+     */
     void checkAdapters(WrongAdapters adapters) throws IOException {
         String wrong = new Bursts(List.of(adapters.right()), Bursts.PATIENT, null, part.to)
             .find(1, ROUNDS_ON_THE_RIGHT_ONE, null, PointSeeds.OFF);
         part.take("UnderOneLock", wrong == null, "it is right, and found: " + wrong);
         Map<String, String> kinds = new TreeMap<>();
         for (Path source : adapters.sources) {
-            FOUND_BY.matcher(Files.readString(source)).results().forEach(found -> kinds.put(found.group(2), found.group(1)));
+            FOUND_BY.matcher(Files.readString(source)).results()
+                .forEach(found -> kinds.put(found.group(2), found.group(1)));
         }
         if (!kinds.keySet().equals(adapters.names())) {
             throw new IllegalStateException("each of " + adapters.names() + " has to say which kind of burst finds it");
@@ -234,7 +244,10 @@ final class BurstKit {
         takeFindings(kinds, adapters::stage);
     }
 
-    /** What is to be found, each by bursts of its kind: a few are played at once, since many wait for ever when they are found. */
+    /**
+     * What is to be found, each by bursts of its kind: a few are played at once, since many wait for ever when they
+     * are found.
+     */
     private void takeFindings(Map<String, String> kinds, Function<String, Stage> stageOf) {
         Map<String, String> findings = new ConcurrentHashMap<>();
         AtOnce.few(kinds.keySet(), name -> {
@@ -254,7 +267,10 @@ final class BurstKit {
         part.to.println("to be found by bursts: " + findings.size() + " found");
     }
 
-    /** What bursts find in something wrong: some of this kind, and with points where it has some, in turn; else many of all kinds. */
+    /**
+     * What bursts find in something wrong: some of this kind, and with points where it has some, in turn; else many of
+     * all kinds.
+     */
     private String finding(Stage stage, String kind) {
         Bursts bursts = new Bursts(List.of(stage), IMPATIENT, null, part.to);
         Bursts withPoints = new Bursts(List.of(stage), IMPATIENT, null, part.to);

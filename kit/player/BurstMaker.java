@@ -1,7 +1,9 @@
 package kit.player;
 
 import java.util.ArrayList;
+import java.util.Collections;
 import java.util.List;
+import java.util.function.Supplier;
 
 /** Puts a burst together: its objects, and the steps of its threads. */
 final class BurstMaker {
@@ -54,6 +56,11 @@ final class BurstMaker {
     /** A time between so many hundredths of a unit. */
     long time(int low, int high) {
         return unit * between(low, high) / 100;
+    }
+
+    /** The class's own, or one that never terminates. */
+    Policy policy() {
+        return of(50) ? Policy.DEFAULT : NEVER;
     }
 
     // ---- objects
@@ -114,6 +121,13 @@ final class BurstMaker {
         return thread(List.of(steps));
     }
 
+    /** So many threads: the steps of each are drawn anew. */
+    void threads(int count, Supplier<List<BurstStep>> steps) {
+        for (int each = 0; each < count; each++) {
+            thread(steps.get());
+        }
+    }
+
     /** One more step at the end of a thread. */
     void then(int thread, BurstStep step) {
         threads.get(thread).add(step);
@@ -136,13 +150,9 @@ final class BurstMaker {
         return BurstStep.call(new Request(method, object, number, nanoseconds));
     }
 
-    /** The same step so often. */
-    static List<BurstStep> times(int count, BurstStep step) {
-        List<BurstStep> steps = new ArrayList<>();
-        for (int time = 0; time < count; time++) {
-            steps.add(step);
-        }
-        return steps;
+    /** The same steps so often. */
+    static List<BurstStep> times(int count, BurstStep... steps) {
+        return Collections.nCopies(count, List.of(steps)).stream().flatMap(List::stream).toList();
     }
 
     // ---- the rest

@@ -1,11 +1,9 @@
 package kit.player;
 
 import java.io.ByteArrayOutputStream;
-import java.io.File;
 import java.io.IOException;
 import java.io.PrintStream;
 import java.io.UncheckedIOException;
-import java.nio.charset.StandardCharsets;
 import java.nio.file.Files;
 import java.nio.file.Path;
 import java.util.ArrayList;
@@ -39,15 +37,11 @@ final class CommandChecks {
     }
 
     private static final String NO_NUMBER = " wants a number from ";
-    /** Generous: a busy machine takes its time to start so many at once. */
-    private static final long LONGEST_SECONDS = 240;
     private static final int INTERRUPT = 2;
     private static final long MILLISECOND = 1_000_000L;
     private static final long SOON = 10_000 * MILLISECOND;
     /** So many times as long as the right port takes, which is less than ten seconds where the machine isn't busy. */
     private static final int TIMES_THE_RIGHT_ONE = 6;
-    /** In place of the status of a command that doesn't end. */
-    private static final int NO_END = -1;
 
     private final Path kit;
     private final Path vuthgal;
@@ -173,17 +167,9 @@ final class CommandChecks {
 
     /** What `kit/compile` says of another kit, with this command in place of the compiler. */
     private String compile(Path other, Path cache, String compiler) {
-        try {
-            Path told = Files.createTempFile("vuthgal", ".told");
-            String words = "javac() { command " + compiler + " \"$@\"; }; export -f javac; export XDG_CACHE_HOME='" + cache + "'; '"
-                + kit.resolve("compile") + "' '" + room + "' '" + other + "' || echo status $?";
-            start(told, List.of("bash", "-c", words)).waitFor(LONGEST_SECONDS, TimeUnit.SECONDS);
-            String text = Files.readString(told).strip();
-            Files.delete(told);
-            return text;
-        } catch (IOException | InterruptedException failed) {
-            throw new IllegalStateException(failed);
-        }
+        String words = "javac() { command " + compiler + " \"$@\"; }; export -f javac; export XDG_CACHE_HOME='" + cache
+            + "'; '" + kit.resolve("compile") + "' '" + room + "' '" + other + "' || echo status $?";
+        return Output.by(inRoom(List.of("bash", "-c", words))).text().strip();
     }
 
     private static void write(Path file, String text) throws IOException {
@@ -305,18 +291,15 @@ final class CommandChecks {
     }
 
     /** A port that hangs is left where bursts are kept: it lives on when the player has ended, and each wait is told. */
-    private void checkLeft(String port) throws IOException, InterruptedException {
-        Path told = Files.createTempFile("vuthgal", ".told");
-        Process player = start(told, "--burst", "1", "--kind", "an-interrupt-alone", "--patience", "0.1", "--keep",
-            Files.createTempDirectory("vuthgal").toString(), "--port", port);
-        boolean ended = player.waitFor(LONGEST_SECONDS, TimeUnit.SECONDS);
-        String text = Files.readString(told, StandardCharsets.ISO_8859_1);
+    private void checkLeft(String port) throws IOException {
+        Output told = Output.by(player(List.of(), "--burst", "1", "--kind", "an-interrupt-alone", "--patience", "0.1",
+            "--keep", Files.createTempDirectory("vuthgal").toString(), "--port", port));
         Matcher left = Pattern.compile("\n    thread 0 +[0-9.]+ s  awaitAdvanceInterruptibly 0 0\n"
-            + "  process \\d+: \\d+ threads sleep: [\\d ]+\n.*: process (\\d+); kill it").matcher(text);
+            + "  process \\d+: \\d+ threads sleep: [\\d ]+\n.*: process (\\d+); kill it").matcher(told.text());
         Optional<ProcessHandle> process = left.find() ? ProcessHandle.of(Long.parseLong(left.group(1))) : Optional.empty();
-        part.take("a port that hangs is left", ended && process.filter(CommandChecks::lives).isPresent(), text);
+        boolean lives = process.filter(CommandChecks::lives).isPresent();
+        part.take("a port that hangs is left", told.status() != null && lives, told.text());
         process.ifPresent(ProcessHandle::destroyForcibly);
-        Files.delete(told);
     }
 
     /** What hangs before the first case is told within ten seconds; later only where the right port is slow, too. */
@@ -331,11 +314,11 @@ final class CommandChecks {
     private long nanosecondsUntil(String says, String... words) throws IOException, InterruptedException {
         Path told = Files.createTempFile("vuthgal", ".told");
         long begun = System.nanoTime();
-        Process process = start(told, words);
+        Process process = Output.begin(player(List.of(), words), told);
         boolean said = false;
-        while (!said && System.nanoTime() - begun < LONGEST_SECONDS * 1000 * MILLISECOND) {
+        while (!said && System.nanoTime() - begun < Output.LONGEST_SECONDS * 1000 * MILLISECOND) {
             boolean lives = process.isAlive();
-            said = Files.readString(told, StandardCharsets.ISO_8859_1).contains(says);
+            said = Output.read(told).contains(says);
             if (!lives) {
                 break;
             }
@@ -343,7 +326,7 @@ final class CommandChecks {
         }
         long took = System.nanoTime() - begun;
         process.destroy();
-        process.waitFor(LONGEST_SECONDS, TimeUnit.SECONDS);
+        process.waitFor(Output.LONGEST_SECONDS, TimeUnit.SECONDS);
         Files.delete(told);
         return said ? took : Long.MAX_VALUE / TIMES_THE_RIGHT_ONE;
     }
@@ -407,7 +390,7 @@ final class CommandChecks {
             PrintStream to = new PrintStream(told);
             List<String> words = new ArrayList<>(List.of("--vuthgal", vuthgal.toString()));
             words.addAll(List.of(check.words()));
-            take(check, Player.run(words.toArray(String[]::new), to, to), told.toString());
+            take(check, new Output(Player.run(words.toArray(String[]::new), to, to), told.toString()));
         } catch (IOException failed) {
             throw new UncheckedIOException(failed);
         }
@@ -415,30 +398,22 @@ final class CommandChecks {
 
     /** By the command as it is, started by these words. */
     private void checkScript(Check check, String... starts) {
-        try {
-            Path told = Files.createTempFile("vuthgal", ".told");
-            List<String> command = new ArrayList<>(List.of(starts));
-            command.addAll(List.of(kit.resolve("play").toString(), "--vuthgal", vuthgal.toString()));
-            command.addAll(List.of(check.words()));
-            Process process = start(told, command);
-            boolean ended = process.waitFor(LONGEST_SECONDS, TimeUnit.SECONDS);
-            process.destroy();
-            take(check, ended ? process.exitValue() : NO_END, Files.readString(told, StandardCharsets.ISO_8859_1));
-            Files.delete(told);
-        } catch (IOException | InterruptedException failed) {
-            throw new IllegalStateException(failed);
-        }
+        List<String> command = new ArrayList<>(List.of(starts));
+        command.addAll(List.of(kit.resolve("play").toString(), "--vuthgal", vuthgal.toString()));
+        command.addAll(List.of(check.words()));
+        take(check, Output.by(inRoom(command)));
     }
 
-    private void take(Check check, int status, String told) {
-        boolean passes = status == check.status() && told.contains(check.says());
-        part.take("kit/play " + String.join(" ", check.words()), passes, "status " + status + ", it says:\n" + told);
+    private void take(Check check, Output told) {
+        boolean passes = told.is(check.status(), check.says());
+        part.take("kit/play " + String.join(" ", check.words()), passes, told.toString());
     }
 
     /** Ends the player by a signal while a port with a child hangs: neither stays behind. */
     private void checkEnd(String port, String signal) throws IOException, InterruptedException {
         Path told = Files.createTempFile("vuthgal", ".told");
-        Process player = start(told, "--patience", "100", "--port", port + "ok child; sleep 600", folder("reset"));
+        Process player = Output.begin(
+            player(List.of(), "--patience", "100", "--port", port + "ok child; sleep 600", folder("reset")), told);
         List<ProcessHandle> below = List.of();
         for (int wait = 0; wait < 1_200 && !hasChild(below); wait++) {
             Thread.sleep(50);
@@ -446,7 +421,7 @@ final class CommandChecks {
         }
         boolean played = hasChild(below);
         new ProcessBuilder("kill", "-" + signal, Long.toString(player.pid())).start().waitFor();
-        player.waitFor(LONGEST_SECONDS, TimeUnit.SECONDS);
+        player.waitFor(Output.LONGEST_SECONDS, TimeUnit.SECONDS);
         Thread.sleep(100);
         List<ProcessHandle> left = below.stream().filter(CommandChecks::lives).toList();
         part.take("kit/play ended by SIG" + signal, played && left.isEmpty(), "of " + below + " these live on: " + left);
@@ -468,16 +443,16 @@ final class CommandChecks {
     /** What the player tells that is ended by a signal which its port gets too, and sooner. */
     private String stopped(String... words) throws IOException, InterruptedException {
         Path told = Files.createTempFile("vuthgal", ".told");
-        Process player = start(told, List.of("-Dkit.progress=true"), words);
-        for (int wait = 0; wait < LONGEST_SECONDS * 20 && Files.size(told) == 0; wait++) {
+        Process player = Output.begin(player(List.of("-Dkit.progress=true"), words), told);
+        for (int wait = 0; wait < Output.LONGEST_SECONDS * 20 && Files.size(told) == 0; wait++) {
             Thread.sleep(50);
         }
         List<String> command = new ArrayList<>(List.of("kill", "-TERM"));
         player.descendants().forEach(each -> command.add(Long.toString(each.pid())));
         command.add(Long.toString(player.pid()));
         new ProcessBuilder(command).start().waitFor();
-        player.waitFor(LONGEST_SECONDS, TimeUnit.SECONDS);
-        String text = Files.readString(told, StandardCharsets.ISO_8859_1);
+        player.waitFor(Output.LONGEST_SECONDS, TimeUnit.SECONDS);
+        String text = Output.read(told);
         Files.delete(told);
         return text;
     }
@@ -502,22 +477,18 @@ final class CommandChecks {
         }
     }
 
-    private Process start(Path told, String... words) throws IOException {
-        return start(told, List.of(), words);
-    }
-
-    private Process start(Path told, List<String> ofJava, String... words) throws IOException {
+    /** The player in a JVM of its own. */
+    private ProcessBuilder player(List<String> ofJava, String... words) {
         String java = Path.of(System.getProperty("java.home"), "bin", "java").toString();
         List<String> command = new ArrayList<>(List.of(java, "-XX:+UseSerialGC", "-XX:TieredStopAtLevel=1", "--add-opens",
             "java.base/java.util.concurrent=ALL-UNNAMED", "-cp", System.getProperty("java.class.path")));
         command.addAll(ofJava);
         command.addAll(List.of(Player.class.getName(), "--vuthgal", vuthgal.toString()));
         command.addAll(List.of(words));
-        return start(told, command);
+        return inRoom(command);
     }
 
-    private Process start(Path told, List<String> command) throws IOException {
-        File output = told.toFile();
-        return new ProcessBuilder(command).directory(room.toFile()).redirectErrorStream(true).redirectOutput(output).start();
+    private ProcessBuilder inRoom(List<String> command) {
+        return new ProcessBuilder(command).directory(room.toFile());
     }
 }

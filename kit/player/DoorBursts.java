@@ -29,9 +29,7 @@ final class DoorBursts {
     static int comers(BurstMaker make, boolean fails, int often) {
         int parties = make.between(1, 3);
         int barrier = barrier(make, parties, fails);
-        for (int comer = parties + make.between(1, 3); comer > 0; comer--) {
-            make.thread(BurstMaker.times(make.between(1, often), await(barrier)));
-        }
+        make.threads(parties + make.between(1, 3), () -> BurstMaker.times(make.between(1, often), await(barrier)));
         make.closes(Request.of(Method.RESET, barrier));
         return barrier;
     }

@@ -28,9 +28,8 @@ final class InsideBursts {
     private static void onAdvance(BurstMaker make) {
         int phaser = make.root(make.between(1, 3), make.of(50) ? BurstMaker.NEVER : new Policy(Policy.Kind.UNTIL, make.between(1, 4)));
         make.insideOnAdvance(phaser, some(make, OF_PHASER));
-        for (int thread = make.between(2, 4); thread > 0; thread--) {
-            make.thread(BurstMaker.times(make.between(1, 4), BurstMaker.call(Method.ARRIVE, phaser)));
-        }
+        make.threads(make.between(2, 4),
+            () -> BurstMaker.times(make.between(1, 4), BurstMaker.call(Method.ARRIVE, phaser)));
         if (make.of(40)) {
             make.thread(BurstMaker.call(Method.REGISTER, phaser), BurstMaker.call(Method.ARRIVE_AND_DEREGISTER, phaser));
         }

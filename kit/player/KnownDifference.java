@@ -6,7 +6,8 @@ package kit.player;
  */
 enum KnownDifference {
     /** Inside onAdvance a registration, or a wait for the current phase, waits for the end of that phase: for ever. */
-    CALL_BLOCKED_IN_ROUTINE("inside `onAdvance`: `register`, `bulkRegister` above 0, `awaitAdvance` of the current phase",
+    CALL_BLOCKED_IN_ROUTINE(
+        "inside `onAdvance`: `register`, `bulkRegister` above 0, `awaitAdvance` of the current phase",
         "register-inside", "RoutineMayRegisterNowhere") {
         @Override
         boolean isTheirs(Situation at, Call call, boolean changed) {
@@ -29,8 +30,8 @@ enum KnownDifference {
         "bulk-of-0-inside", "RegisteringNobodyInRoutineAnswersTheNextPhase") {
         @Override
         Answer instead(Situation at, Answer given) {
-            return at.insideOwnRoutine() && at.method() == Method.BULK_REGISTER && at.number() == 0 && given.isValue(at.viewBefore())
-                ? Answer.thrown(Answer.ILLEGAL_STATE) : null;
+            return at.insideOwnRoutine() && at.method() == Method.BULK_REGISTER && at.number() == 0
+                && given.isValue(at.viewBefore()) ? Answer.thrown(Answer.ILLEGAL_STATE) : null;
         }
     },
 
@@ -59,7 +60,8 @@ enum KnownDifference {
     },
 
     /** Inside onAdvance, once it has forced the termination, the JDK answers the view as it does anywhere. */
-    CALL_IN_TERMINATED_ROUTINE("inside `onAdvance`, after `forceTermination` there: `register`, `arrive`, `awaitAdvance`",
+    CALL_IN_TERMINATED_ROUTINE(
+        "inside `onAdvance`, after `forceTermination` there: `register`, `arrive`, `awaitAdvance`",
         "register-after-force-inside", "ForcedRoutineGetsThePlainPhase") {
         @Override
         Answer instead(Situation at, Answer given) {
@@ -72,7 +74,8 @@ enum KnownDifference {
     },
 
     /** Inside onAdvance, after a stray at the root, an arrival at a child that still waits for somebody is counted. */
-    ARRIVAL_IN_ROUTINE("inside `onAdvance`: an arrival at a child that still waits for somebody (possible only after strays)",
+    ARRIVAL_IN_ROUTINE(
+        "inside `onAdvance`: an arrival at a child that still waits for somebody (possible only after strays)",
         "arrive-at-a-child-inside", "ArrivalInRoutineIsIgnored") {
         @Override
         boolean isTheirs(Situation at, Call call, boolean changed) {
@@ -96,7 +99,8 @@ enum KnownDifference {
 
         @Override
         boolean forbids(Situation at) {
-            return at.method().arrives() && !at.insideOwnRoutine() && !at.terminatedBefore() && isRefused(at.scene(), at.object());
+            return at.method().arrives() && !at.insideOwnRoutine() && !at.terminatedBefore()
+                && isRefused(at.scene(), at.object());
         }
 
         /** Whether a phaser above would be arrived at, and waits for nobody. */
@@ -144,8 +148,8 @@ enum KnownDifference {
     },
 
     /**
-     * A forced termination leaves the counts as they are; a child keeps those of the last phase in which it was brought up to
-     * date, also where strays have ended its tree without it.
+     * A forced termination leaves the counts as they are; a child keeps those of the last phase in which it was
+     * brought up to date, also where strays have ended its tree without it.
      */
     COUNTS_AFTER_FORCE("arrived and unarrived parties after `forceTermination`",
         "counts-after-force", "CountsAreClearedByForce") {
@@ -179,7 +183,8 @@ enum KnownDifference {
         @Override
         boolean isTheirs(Situation at, Call call, boolean changed) {
             return RealThread.outcome(call) == RealThread.Outcome.BLOCKED
-                || call.done() && (call.answer().isThrown(Answer.TIMEOUT) || call.answer().isThrown(Answer.INTERRUPTED));
+                || call.done()
+                && (call.answer().isThrown(Answer.TIMEOUT) || call.answer().isThrown(Answer.INTERRUPTED));
         }
 
         @Override
@@ -227,14 +232,17 @@ enum KnownDifference {
     }
 
     /**
-     * Whether the JDK isn't asked at all, since the call would hang or leave an object that can't be compared any more. Here it
-     * is IllegalStateException. Only the first play asks, so this may look at the objects.
+     * Whether the JDK isn't asked at all, since the call would hang or leave an object that can't be compared any
+     * more. Here it is IllegalStateException. Only the first play asks, so this may look at the objects.
      */
     boolean forbids(Situation at) {
         return false;
     }
 
-    /** Whether a call for which the JDK isn't asked came to what it comes to there; {@code changed} says of the object's counts. */
+    /**
+     * Whether a call for which the JDK isn't asked came to what it comes to there; {@code changed} says of the
+     * object's counts.
+     */
     boolean isTheirs(Situation at, Call call, boolean changed) {
         return false;
     }

@@ -2,6 +2,7 @@ package kit.player;
 
 import java.util.ArrayList;
 import java.util.List;
+import java.util.stream.IntStream;
 
 /** Bursts in which the parties of one phaser meet, come, and leave. */
 final class MeetingBursts {
@@ -44,23 +45,30 @@ final class MeetingBursts {
         return BurstMaker.call(Method.ARRIVE_AND_AWAIT_ADVANCE, phaser);
     }
 
+    private static List<BurstStep> comesAndGoes(int phaser, int often) {
+        return BurstMaker.times(often, BurstMaker.call(Method.REGISTER, phaser),
+            BurstMaker.call(Method.ARRIVE_AND_DEREGISTER, phaser));
+    }
+
+    /** Waits for one phase after the other. */
+    private static List<BurstStep> awaits(int phaser, int phases) {
+        return IntStream.range(0, phases)
+            .mapToObj(phase -> BurstMaker.call(Method.AWAIT_ADVANCE, phaser, phase)).toList();
+    }
+
     private static void meetings(BurstMaker make) {
         int parties = make.between(2, BurstMaker.MOST_THREADS);
-        int phaser = make.root(parties, make.of(50) ? Policy.DEFAULT : BurstMaker.NEVER);
+        int phaser = make.root(parties, make.policy());
         int often = make.between(1, 4);
-        for (int party = 0; party < parties; party++) {
-            make.thread(BurstMaker.times(often, meet(phaser)));
-        }
+        make.threads(parties, () -> BurstMaker.times(often, meet(phaser)));
         make.claims(BurstClaim.MEETS);
     }
 
     private static void audience(BurstMaker make) {
         int parties = make.between(1, 3);
-        int phaser = make.root(parties, make.of(50) ? Policy.DEFAULT : BurstMaker.NEVER);
+        int phaser = make.root(parties, make.policy());
         int often = make.between(2, 4);
-        for (int party = 0; party < parties; party++) {
-            make.thread(BurstMaker.times(often, meet(phaser)));
-        }
+        make.threads(parties, () -> BurstMaker.times(often, meet(phaser)));
         for (int other = make.between(1, 3); other > 0; other--) {
             List<BurstStep> steps = new ArrayList<>();
             for (int phase = 0; phase < often; phase++) {
@@ -74,7 +82,7 @@ final class MeetingBursts {
 
     private static void departures(BurstMaker make) {
         int parties = make.between(2, 6);
-        int phaser = make.root(parties, make.of(50) ? Policy.DEFAULT : BurstMaker.NEVER);
+        int phaser = make.root(parties, make.policy());
         for (int party = 0; party < parties; party++) {
             List<BurstStep> steps = new ArrayList<>(BurstMaker.times(make.between(0, 3), meet(phaser)));
             steps.add(BurstMaker.call(Method.ARRIVE_AND_DEREGISTER, phaser));
@@ -101,17 +109,8 @@ final class MeetingBursts {
     private static void registration(BurstMaker make) {
         int parties = make.between(1, 3);
         int phaser = make.root(parties, BurstMaker.NEVER);
-        for (int party = 0; party < parties; party++) {
-            make.thread(meet(phaser));
-        }
-        for (int other = make.between(1, 4); other > 0; other--) {
-            List<BurstStep> steps = new ArrayList<>();
-            for (int often = make.between(1, 2); often > 0; often--) {
-                steps.add(BurstMaker.call(Method.REGISTER, phaser));
-                steps.add(BurstMaker.call(Method.ARRIVE_AND_DEREGISTER, phaser));
-            }
-            make.thread(steps);
-        }
+        make.threads(parties, () -> List.of(meet(phaser)));
+        make.threads(make.between(1, 4), () -> comesAndGoes(phaser, make.between(1, 2)));
         looks(make, phaser);
     }
 
@@ -134,14 +133,7 @@ final class MeetingBursts {
 
     private static void manyLooks(BurstMaker make) {
         int phaser = make.root(1);
-        for (int other = make.between(2, 4); other > 0; other--) {
-            List<BurstStep> steps = new ArrayList<>();
-            for (int often = make.between(1, 3); often > 0; often--) {
-                steps.add(BurstMaker.call(Method.REGISTER, phaser));
-                steps.add(BurstMaker.call(Method.ARRIVE_AND_DEREGISTER, phaser));
-            }
-            make.thread(steps);
-        }
+        make.threads(make.between(2, 4), () -> comesAndGoes(phaser, make.between(1, 3)));
         for (int looker = make.between(1, 3); looker > 0; looker--) {
             Method getter = make.any(List.of(Method.GET_ARRIVED_PARTIES, Method.GET_UNARRIVED_PARTIES));
             make.thread(BurstMaker.times(make.between(2, 5), BurstMaker.call(getter, phaser)));
@@ -164,28 +156,23 @@ final class MeetingBursts {
     /** Threads that arrive and go, some of them in the place of others, and who awaits the end. */
     private static void arrivals(BurstMaker make) {
         int parties = make.between(2, 5);
-        int phaser = make.root(parties, make.of(50) ? Policy.DEFAULT : BurstMaker.NEVER);
-        for (int party = 0; party < parties; party++) {
-            make.thread(BurstMaker.times(make.of(10) ? 2 : 1, BurstMaker.call(Method.ARRIVE, phaser)));
-        }
+        int phaser = make.root(parties, make.policy());
+        make.threads(parties, () -> BurstMaker.times(make.of(10) ? 2 : 1, BurstMaker.call(Method.ARRIVE, phaser)));
         make.thread(BurstMaker.call(Method.AWAIT_ADVANCE, phaser, 0));
         looks(make, phaser);
     }
 
     private static void manyArrivals(BurstMaker make) {
         int phaser = make.root(make.between(1, 2));
-        for (int thread = make.between(2, 4); thread > 0; thread--) {
-            make.thread(BurstMaker.times(make.between(4, MANY), BurstMaker.call(Method.ARRIVE, phaser)));
-        }
+        make.threads(make.between(2, 4),
+            () -> BurstMaker.times(make.between(4, MANY), BurstMaker.call(Method.ARRIVE, phaser)));
     }
 
     private static void barging(BurstMaker make) {
         int parties = make.between(1, 3);
-        int phaser = make.root(parties, make.of(50) ? Policy.DEFAULT : BurstMaker.NEVER);
+        int phaser = make.root(parties, make.policy());
         int most = make.of(50) ? 8 : 3;
-        for (int thread = parties + make.between(1, 4); thread > 0; thread--) {
-            make.thread(BurstMaker.times(make.between(1, most), meet(phaser)));
-        }
+        make.threads(parties + make.between(1, 4), () -> BurstMaker.times(make.between(1, most), meet(phaser)));
         make.closes(Request.of(Method.FORCE_TERMINATION, phaser));
     }
 
@@ -203,43 +190,30 @@ final class MeetingBursts {
     }
 
     /**
-     * In a meeting two can't wake at once: who ends a phase is a party of the next, and wakes before it arrives there. Here an
-     * arrival is refused while another ends a phase, so that no more than two phases need end: more arrivals come where others
-     * are awaited.
+     * In a meeting two can't wake at once: who ends a phase is a party of the next, and wakes before it arrives there.
+     * Here an arrival is refused while another ends a phase, so that no more than two phases need end: more arrivals
+     * come where others are awaited.
      */
     private static void waitsWhileArrivalsBarge(BurstMaker make) {
         int phaser = make.root(1);
-        for (int thread = make.between(2, 3); thread > 0; thread--) {
-            make.thread(BurstMaker.times(make.between(2, 6), BurstMaker.call(Method.ARRIVE, phaser)));
-        }
+        make.threads(make.between(2, 3),
+            () -> BurstMaker.times(make.between(2, 6), BurstMaker.call(Method.ARRIVE, phaser)));
         int phases = make.between(2, 4);
         if (phases > 2) {
             make.closes(Request.of(Method.ARRIVE, phaser));
         }
-        for (int waiter = make.between(2, 4); waiter > 0; waiter--) {
-            List<BurstStep> steps = new ArrayList<>();
-            for (int phase = 0; phase < phases; phase++) {
-                steps.add(BurstMaker.call(Method.AWAIT_ADVANCE, phaser, phase));
-            }
-            make.thread(steps);
-        }
+        make.threads(make.between(2, 4), () -> awaits(phaser, phases));
     }
 
-    /** Two arrive at the same moments, again and again, so that both release: others have come back to wait by then. */
+    /**
+     * Two arrive at the same moments, again and again, so that both release: others have come back to wait by then.
+     */
     private static void twoWhoRelease(BurstMaker make) {
         int phaser = make.root(1, BurstMaker.NEVER);
         int often = make.between(2, 6);
         long pause = make.time(50, 500);
-        for (int thread = 0; thread < 2; thread++) {
-            make.thread(BurstMaker.times(often, BurstMaker.call(Method.ARRIVE, phaser).after(pause)));
-        }
-        for (int waiter = make.between(2, 5); waiter > 0; waiter--) {
-            List<BurstStep> steps = new ArrayList<>();
-            for (int phase = 0; phase < often + 1; phase++) {
-                steps.add(BurstMaker.call(Method.AWAIT_ADVANCE, phaser, phase));
-            }
-            make.thread(steps);
-        }
+        make.threads(2, () -> BurstMaker.times(often, BurstMaker.call(Method.ARRIVE, phaser).after(pause)));
+        make.threads(make.between(2, 5), () -> awaits(phaser, often + 1));
         make.closes(Request.of(Method.FORCE_TERMINATION, phaser));
     }
 

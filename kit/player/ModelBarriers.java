@@ -7,23 +7,9 @@ import java.util.List;
 final class ModelBarriers {
     private static final int NOBODY = -1;
 
-    private static final class Barrier {
-        private final int parties;
-        private final boolean withAction;
-        private int waiting;
-        private boolean broken;
-        private int runner = NOBODY;
-
-        Barrier(int parties, boolean withAction) {
-            this.parties = parties;
-            this.withAction = withAction;
-        }
-
-        Barrier(Barrier other) {
-            this(other.parties, other.withAction);
-            waiting = other.waiting;
-            broken = other.broken;
-            runner = other.runner;
+    private record Barrier(int parties, boolean withAction, int waiting, boolean broken, int runner) {
+        Barrier now(int nowWaiting, boolean isBroken, int nowRunner) {
+            return new Barrier(parties, withAction, nowWaiting, isBroken, nowRunner);
         }
     }
 
@@ -31,36 +17,36 @@ final class ModelBarriers {
 
     ModelBarriers copy() {
         ModelBarriers copy = new ModelBarriers();
-        all.forEach(barrier -> copy.all.add(new Barrier(barrier)));
+        copy.all.addAll(all);
         return copy;
     }
 
     void add(int parties, boolean withAction) {
-        all.add(new Barrier(parties, withAction));
+        all.add(new Barrier(parties, withAction, 0, false, NOBODY));
     }
 
     int parties(int barrier) {
-        return all.get(barrier).parties;
+        return all.get(barrier).parties();
     }
 
     boolean hasAction(int barrier) {
-        return all.get(barrier).withAction;
+        return all.get(barrier).withAction();
     }
 
     int waiting(int barrier) {
-        return all.get(barrier).waiting;
+        return all.get(barrier).waiting();
     }
 
     boolean isBroken(int barrier) {
-        return all.get(barrier).broken;
+        return all.get(barrier).broken();
     }
 
     boolean actionRuns(int barrier) {
-        return all.get(barrier).runner != NOBODY;
+        return all.get(barrier).runner() != NOBODY;
     }
 
     boolean isRunner(int thread, int barrier) {
-        return all.get(barrier).runner == thread;
+        return all.get(barrier).runner() == thread;
     }
 
     /** The arrival index of the next to come. */
@@ -69,27 +55,25 @@ final class ModelBarriers {
     }
 
     void comes(int barrier) {
-        all.get(barrier).waiting++;
+        Barrier at = all.get(barrier);
+        all.set(barrier, at.now(at.waiting + 1, at.broken, at.runner));
     }
 
     void actionBegins(int barrier, int thread) {
         Barrier at = all.get(barrier);
-        at.runner = thread;
+        all.set(barrier, at.now(at.waiting, at.broken, thread));
     }
 
     /** Its generation is over. */
     void renew(int barrier, boolean broken) {
-        Barrier at = all.get(barrier);
-        at.waiting = 0;
-        at.broken = broken;
-        at.runner = NOBODY;
+        all.set(barrier, all.get(barrier).now(0, broken, NOBODY));
     }
 
     void addTo(List<Integer> key) {
         for (Barrier barrier : all) {
-            key.add(barrier.waiting);
-            key.add(barrier.broken ? 1 : 0);
-            key.add(barrier.runner);
+            key.add(barrier.waiting());
+            key.add(barrier.broken() ? 1 : 0);
+            key.add(barrier.runner());
         }
     }
 }

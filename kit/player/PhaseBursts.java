@@ -51,19 +51,20 @@ final class PhaseBursts {
         };
     }
 
+    private static BurstStep interruptibleWait(BurstMaker make, int phaser) {
+        Method method = make.of(50) ? Method.AWAIT_ADVANCE_INTERRUPTIBLY : Method.AWAIT_ADVANCE_FOR;
+        return BurstMaker.timed(method, phaser, 0, DAY);
+    }
+
     private static void waitAgainstTheEnd(BurstMaker make) {
-        int phaser = make.root(1, make.of(50) ? Policy.DEFAULT : BurstMaker.NEVER);
-        for (int waiter = make.between(1, 3); waiter > 0; waiter--) {
-            make.thread(anyWait(make, phaser));
-        }
+        int phaser = make.root(1, make.policy());
+        make.threads(make.between(1, 3), () -> List.of(anyWait(make, phaser)));
         make.thread(arrive(phaser).after(make.time(0, 3)));
     }
 
     private static void phasesAtOnce(BurstMaker make) {
-        int phaser = make.root(1, make.of(50) ? Policy.DEFAULT : BurstMaker.NEVER);
-        for (int waiter = make.between(1, 4); waiter > 0; waiter--) {
-            make.thread(anyWait(make, phaser));
-        }
+        int phaser = make.root(1, make.policy());
+        make.threads(make.between(1, 4), () -> List.of(anyWait(make, phaser)));
         int thread = make.thread(BurstMaker.times(make.between(1, 4), arrive(phaser)));
         make.then(thread, BurstMaker.call(Method.GET_PHASE, phaser));
         delayFirst(make, thread, phaser);
@@ -77,12 +78,9 @@ final class PhaseBursts {
     }
 
     private static void interruptBehind(BurstMaker make) {
-        int phaser = make.root(1, make.of(50) ? Policy.DEFAULT : BurstMaker.NEVER);
+        int phaser = make.root(1, make.policy());
         int waiters = make.between(1, 3);
-        for (int waiter = 0; waiter < waiters; waiter++) {
-            make.thread(BurstMaker.timed(
-                make.of(50) ? Method.AWAIT_ADVANCE_INTERRUPTIBLY : Method.AWAIT_ADVANCE_FOR, phaser, 0, DAY));
-        }
+        make.threads(waiters, () -> List.of(interruptibleWait(make, phaser)));
         int thread = make.thread(arrive(phaser).after(make.time(100, 1_000)));
         for (int waiter = 0; waiter < waiters; waiter++) {
             make.then(thread, BurstStep.interrupt(waiter));
@@ -92,23 +90,17 @@ final class PhaseBursts {
     private static void interruptAlone(BurstMaker make) {
         int phaser = make.root(1);
         int waiters = make.between(1, 2);
-        for (int waiter = 0; waiter < waiters; waiter++) {
-            make.thread(BurstMaker.timed(
-                make.of(50) ? Method.AWAIT_ADVANCE_INTERRUPTIBLY : Method.AWAIT_ADVANCE_FOR, phaser, 0, DAY));
-        }
+        make.threads(waiters, () -> List.of(interruptibleWait(make, phaser)));
         make.interruptsEach(waiters);
     }
 
     private static void interruptsAmong(BurstMaker make) {
         int parties = make.between(1, 2);
-        int phaser = make.root(parties, make.of(50) ? Policy.DEFAULT : BurstMaker.NEVER);
+        int phaser = make.root(parties, make.policy());
         int waiters = make.between(1, 3);
-        for (int waiter = 0; waiter < waiters; waiter++) {
-            make.thread(anyWait(make, phaser), BurstMaker.call(Method.IS_INTERRUPTED, 0));
-        }
-        for (int party = 0; party < parties; party++) {
-            make.thread(BurstMaker.call(Method.ARRIVE_AND_AWAIT_ADVANCE, phaser).after(make.time(0, 500)));
-        }
+        make.threads(waiters, () -> List.of(anyWait(make, phaser), BurstMaker.call(Method.IS_INTERRUPTED, 0)));
+        make.threads(parties,
+            () -> List.of(BurstMaker.call(Method.ARRIVE_AND_AWAIT_ADVANCE, phaser).after(make.time(0, 500))));
         int thread = make.thread(BurstStep.interrupt(make.between(0, waiters + parties - 1)).after(make.time(0, 500)));
         for (int more = make.between(0, 2); more > 0; more--) {
             make.then(thread, BurstStep.interrupt(make.between(0, waiters + parties - 1)));
@@ -116,19 +108,16 @@ final class PhaseBursts {
     }
 
     private static void timeAtTheAdvance(BurstMaker make) {
-        int phaser = make.root(1, make.of(50) ? Policy.DEFAULT : BurstMaker.NEVER);
+        int phaser = make.root(1, make.policy());
         long time = make.time(1_000, 2_000);
-        for (int waiter = make.between(1, 2); waiter > 0; waiter--) {
-            make.thread(BurstMaker.timed(Method.AWAIT_ADVANCE_FOR, phaser, 0, time));
-        }
+        make.threads(make.between(1, 2), () -> List.of(BurstMaker.timed(Method.AWAIT_ADVANCE_FOR, phaser, 0, time)));
         make.thread(arrive(phaser).after(Math.max(time - make.time(-200, 600), 0)));
     }
 
     private static void timeThatRunsOut(BurstMaker make) {
         int phaser = make.root(2);
-        for (int waiter = make.between(1, 3); waiter > 0; waiter--) {
-            make.thread(BurstMaker.timed(Method.AWAIT_ADVANCE_FOR, phaser, 0, make.between(1, 900) * 1_000L));
-        }
+        make.threads(make.between(1, 3),
+            () -> List.of(BurstMaker.timed(Method.AWAIT_ADVANCE_FOR, phaser, 0, make.between(1, 900) * 1_000L)));
         make.thread(arrive(phaser), BurstMaker.call(Method.GET_UNARRIVED_PARTIES, phaser));
     }
 
@@ -156,34 +145,27 @@ final class PhaseBursts {
     }
 
     private static void crowd(BurstMaker make) {
-        int phaser = make.root(1, make.of(50) ? Policy.DEFAULT : BurstMaker.NEVER);
-        for (int waiter = make.between(BurstMaker.MOST_THREADS + 1, BurstMaker.CROWD); waiter > 0; waiter--) {
-            make.thread(anyWait(make, phaser));
-        }
+        int phaser = make.root(1, make.policy());
+        make.threads(make.between(BurstMaker.MOST_THREADS + 1, BurstMaker.CROWD),
+            () -> List.of(anyWait(make, phaser)));
         make.thread(arrive(phaser).after(make.time(0, 3_000)));
     }
 
     private static void forceAmong(BurstMaker make) {
         int parties = make.between(2, 4);
-        int phaser = make.root(parties, make.of(50) ? Policy.DEFAULT : BurstMaker.NEVER);
-        for (int party = make.between(1, parties); party > 0; party--) {
-            make.thread(BurstMaker.call(Method.ARRIVE_AND_AWAIT_ADVANCE, phaser));
-        }
-        for (int waiter = make.between(0, 2); waiter > 0; waiter--) {
-            make.thread(anyWait(make, phaser));
-        }
+        int phaser = make.root(parties, make.policy());
+        make.threads(make.between(1, parties),
+            () -> List.of(BurstMaker.call(Method.ARRIVE_AND_AWAIT_ADVANCE, phaser)));
+        make.threads(make.between(0, 2), () -> List.of(anyWait(make, phaser)));
         int thread = make.thread(BurstMaker.call(Method.FORCE_TERMINATION, phaser).after(make.time(0, 200)));
         make.then(thread, BurstMaker.call(make.any(List.of(Method.GET_PHASE, Method.ARRIVE, Method.REGISTER)), phaser));
     }
 
     private static void forceAmongArrivals(BurstMaker make) {
         int phaser = make.root(1);
-        for (int thread = make.between(1, 2); thread > 0; thread--) {
-            make.thread(BurstMaker.times(make.between(MANY / 2, MANY), arrive(phaser)));
-        }
-        for (int looker = make.between(1, 2); looker > 0; looker--) {
-            make.thread(BurstMaker.times(make.between(MANY / 2, MANY), BurstMaker.call(Method.GET_PHASE, phaser)));
-        }
+        make.threads(make.between(1, 2), () -> BurstMaker.times(make.between(MANY / 2, MANY), arrive(phaser)));
+        make.threads(make.between(1, 2),
+            () -> BurstMaker.times(make.between(MANY / 2, MANY), BurstMaker.call(Method.GET_PHASE, phaser)));
         make.thread(BurstMaker.call(Method.FORCE_TERMINATION, phaser).after(make.time(0, 40)),
             BurstMaker.call(Method.GET_PHASE, phaser));
     }

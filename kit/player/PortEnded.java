@@ -9,11 +9,6 @@ final class PortEnded extends Breakdown {
     }
 
     @Override
-    boolean mayBeSlowness() {
-        return false;
-    }
-
-    @Override
     boolean isEndless() {
         return atStart;
     }

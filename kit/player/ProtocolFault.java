@@ -12,14 +12,4 @@ final class ProtocolFault extends Breakdown {
         this(what);
         initCause(thrown);
     }
-
-    @Override
-    boolean mayBeSlowness() {
-        return false;
-    }
-
-    @Override
-    boolean isEndless() {
-        return false;
-    }
 }

@@ -7,14 +7,4 @@ final class RaceWarning extends Breakdown {
     RaceWarning(String lines) {
         super("the port's race detector warns:\n" + lines, false);
     }
-
-    @Override
-    boolean mayBeSlowness() {
-        return false;
-    }
-
-    @Override
-    boolean isEndless() {
-        return false;
-    }
 }

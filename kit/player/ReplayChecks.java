@@ -6,7 +6,6 @@ import java.nio.file.Path;
 import java.util.ArrayList;
 import java.util.List;
 import java.util.Map;
-import java.util.concurrent.TimeUnit;
 
 /** Whether what works without a JDK does: {@code kit/replay} with the transcripts, and the words that name it. */
 final class ReplayChecks {
@@ -17,7 +16,6 @@ final class ReplayChecks {
     private static final int WAITS = 24_000;
     /** Enough where something of each wait is kept. */
     private static final int FEW_WAITS = 6_000;
-    private static final long LONGEST_SECONDS = 240;
     /** Longer than what many a reader of lines has room for. */
     private static final int LONG_LINE = 100_000;
 
@@ -188,7 +186,7 @@ final class ReplayChecks {
 
     private void replay(int status, String says, String command, String files) {
         String words = "kit/replay '" + command + "'" + files;
-        Told told = null;
+        Output told = null;
         for (String patience : PATIENCE) {
             if (told != null) {
                 part.to.println(words + " is played again: " + told.text());
@@ -201,7 +199,7 @@ final class ReplayChecks {
         part.take(words, told.is(status, says), told.toString());
     }
 
-    private Told replay(String command, String files, String patience) {
+    private Output replay(String command, String files, String patience) {
         String quoted = "'" + command.replace("'", "'\\''") + "'";
         return shell("cd '" + kit + "' && " + python + " ./replay --patience " + patience + " " + quoted + files, Map.of());
     }
@@ -238,40 +236,18 @@ final class ReplayChecks {
         Files.delete(room);
     }
 
-    /** What a command said, and its status, none where it didn't end. */
-    private record Told(Integer status, String text) {
-        boolean is(int wanted, String says) {
-            return status != null && status == wanted && text.contains(says);
-        }
-
-        @Override
-        public String toString() {
-            return (status == null ? "no end" : "status " + status) + ", it says:\n" + text;
-        }
-    }
-
     private void check(int status, String says, Map<String, String> environment, String words) {
         check(status, List.of(says), environment, words);
     }
 
     private void check(int status, List<String> says, Map<String, String> environment, String words) {
-        Told told = shell(words, environment);
+        Output told = shell(words, environment);
         part.take(words, says.stream().allMatch(each -> told.is(status, each)), told.toString());
     }
 
-    private Told shell(String words, Map<String, String> environment) {
-        try {
-            Path told = Files.createTempFile("vuthgal", ".told");
-            ProcessBuilder builder = new ProcessBuilder("/usr/bin/bash", "-c", words);
-            builder.environment().putAll(environment);
-            Process process = builder.redirectErrorStream(true).redirectOutput(told.toFile()).start();
-            boolean ended = process.waitFor(LONGEST_SECONDS, TimeUnit.SECONDS);
-            process.destroy();
-            String text = Files.readString(told);
-            Files.delete(told);
-            return new Told(ended ? process.exitValue() : null, text);
-        } catch (IOException | InterruptedException failed) {
-            throw new IllegalStateException(failed);
-        }
+    private Output shell(String words, Map<String, String> environment) {
+        ProcessBuilder command = new ProcessBuilder("/usr/bin/bash", "-c", words);
+        command.environment().putAll(environment);
+        return Output.by(command);
     }
 }

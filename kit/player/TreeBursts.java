@@ -39,7 +39,7 @@ final class TreeBursts {
 
     /** A root with some children, or a chain; answers the phasers to arrive at. */
     private static List<Integer> tree(BurstMaker make, int children, int partiesOfEach) {
-        int parent = make.root(0, make.of(50) ? Policy.DEFAULT : BurstMaker.NEVER);
+        int parent = make.root(0, make.policy());
         List<Integer> leaves = new ArrayList<>();
         for (int child = 0; child < children; child++) {
             int above = child > 0 && make.of(30) ? leaves.get(child - 1) : parent;
@@ -53,9 +53,7 @@ final class TreeBursts {
         List<Integer> leaves = tree(make, make.between(2, 4), each);
         int often = make.between(1, 3);
         for (int leaf : leaves) {
-            for (int party = 0; party < each; party++) {
-                make.thread(BurstMaker.times(often, meet(leaf)));
-            }
+            make.threads(each, () -> BurstMaker.times(often, meet(leaf)));
         }
         make.claims(BurstClaim.MEETS);
     }
@@ -88,19 +86,13 @@ final class TreeBursts {
         int root = make.root(1, BurstMaker.NEVER);
         int child = make.phaser(root, 0, Policy.DEFAULT);
         make.thread(BurstMaker.times(make.between(2, 6), meet(root)));
-        for (int other = make.between(2, 3); other > 0; other--) {
-            List<BurstStep> steps = new ArrayList<>();
-            for (int often = make.between(1, 2); often > 0; often--) {
-                steps.add(BurstMaker.call(Method.REGISTER, child));
-                steps.add(BurstMaker.call(Method.GET_PHASE, root));
-                steps.add(BurstMaker.call(Method.ARRIVE_AND_DEREGISTER, child));
-            }
-            make.thread(steps);
-        }
+        BurstStep[] visit = {BurstMaker.call(Method.REGISTER, child), BurstMaker.call(Method.GET_PHASE, root),
+            BurstMaker.call(Method.ARRIVE_AND_DEREGISTER, child)};
+        make.threads(make.between(2, 3), () -> BurstMaker.times(make.between(1, 2), visit));
     }
 
     private static void looks(BurstMaker make) {
-        int root = make.root(0, make.of(50) ? Policy.DEFAULT : BurstMaker.NEVER);
+        int root = make.root(0, make.policy());
         int child = make.phaser(root, 2, Policy.DEFAULT);
         int other = make.of(50) ? make.phaser(make.of(50) ? root : child, 1, Policy.DEFAULT) : child;
         int often = make.between(2, 6);
@@ -115,15 +107,14 @@ final class TreeBursts {
     }
 
     private static void threeLevels(BurstMaker make) {
-        int middle = make.phaser(make.root(0, make.of(50) ? Policy.DEFAULT : BurstMaker.NEVER), 0, Policy.DEFAULT);
+        int middle = make.phaser(make.root(0, make.policy()), 0, Policy.DEFAULT);
         int leaves = make.between(1, 3);
         int often = make.between(2, 5);
         boolean meets = make.of(60);
         for (int leaf = 0; leaf < leaves; leaf++) {
             int lowest = make.phaser(middle, make.between(1, 2), Policy.DEFAULT);
-            for (int party = make.partiesOf(lowest); party > 0; party--) {
-                make.thread(meets ? BurstMaker.times(often, meet(lowest)) : arrivals(lowest, often));
-            }
+            make.threads(make.partiesOf(lowest),
+                () -> meets ? BurstMaker.times(often, meet(lowest)) : arrivals(lowest, often));
         }
         if (meets) {
             make.claims(BurstClaim.MEETS);
@@ -146,18 +137,13 @@ final class TreeBursts {
     private static void phaseOfAChild(BurstMaker make) {
         int often = make.between(2, 4);
         for (int leaf : tree(make, make.between(2, 3), 1)) {
-            List<BurstStep> steps = new ArrayList<>();
-            for (int time = 0; time < often; time++) {
-                steps.add(meet(leaf));
-                steps.add(BurstMaker.call(Method.GET_PHASE, leaf));
-            }
-            make.thread(steps);
+            make.thread(BurstMaker.times(often, meet(leaf), BurstMaker.call(Method.GET_PHASE, leaf)));
         }
         make.claims(BurstClaim.MEETS);
     }
 
     private static void departuresAndForce(BurstMaker make) {
-        int root = make.root(1, make.of(50) ? Policy.DEFAULT : BurstMaker.NEVER);
+        int root = make.root(1, make.policy());
         int child = make.phaser(root, 1, Policy.DEFAULT);
         make.thread(BurstMaker.call(Method.ARRIVE, root));
         make.thread(BurstMaker.call(Method.ARRIVE_AND_DEREGISTER, child));

@@ -1,6 +1,5 @@
 package kit.player;
 
-import java.util.ArrayList;
 import java.util.List;
 
 /** Bursts in which barriers trip, and what comes right behind a trip. */
@@ -37,18 +36,14 @@ final class TripBursts {
     }
 
     private static void others(BurstMaker make, int barrier, int count) {
-        for (int other = 0; other < count; other++) {
-            make.thread(await(barrier));
-        }
+        make.threads(count, () -> List.of(await(barrier)));
     }
 
     private static void trips(BurstMaker make) {
         int parties = make.between(2, BurstMaker.MOST_THREADS);
         int barrier = make.barrier(parties, make.of(40), 0, false);
         int often = make.between(1, 5);
-        for (int party = 0; party < parties; party++) {
-            make.thread(BurstMaker.times(often, await(barrier)));
-        }
+        make.threads(parties, () -> BurstMaker.times(often, await(barrier)));
         make.claims(BurstClaim.TRIPS);
     }
 
@@ -56,9 +51,7 @@ final class TripBursts {
         int parties = make.between(2, 3);
         int barrier = make.barrier(parties, make.of(30), 0, false);
         int most = make.of(25) ? 12 : 3;
-        for (int thread = parties + make.between(1, 3); thread > 0; thread--) {
-            make.thread(BurstMaker.times(make.between(1, most), await(barrier)));
-        }
+        make.threads(parties + make.between(1, 3), () -> BurstMaker.times(make.between(1, most), await(barrier)));
         make.closes(Request.of(Method.RESET, barrier));
     }
 
@@ -99,9 +92,7 @@ final class TripBursts {
         int parties = make.between(2, 3);
         int barrier = make.barrier(parties, make.of(30), 0, false);
         long time = make.time(1_000, 2_000);
-        for (int other = 0; other < parties - 1; other++) {
-            make.thread(awaitFor(barrier, time));
-        }
+        make.threads(parties - 1, () -> List.of(awaitFor(barrier, time)));
         make.thread(await(barrier).after(Math.max(time - make.time(-200, 600), 0)));
     }
 
@@ -109,16 +100,13 @@ final class TripBursts {
         int parties = make.between(2, 3);
         long time = make.time(2_000, 4_000);
         int barrier = make.barrier(parties, true, time * 2, false);
-        for (int other = 0; other < parties - 1; other++) {
-            make.thread(awaitFor(barrier, time));
-        }
+        make.threads(parties - 1, () -> List.of(awaitFor(barrier, time)));
         make.thread(await(barrier));
     }
 
     private static void longestTime(BurstMaker make) {
         int barrier = make.barrier(2);
         make.thread(awaitFor(barrier, Long.MAX_VALUE - make.between(0, 1) * make.between(0, 1_000)));
-        List<BurstStep> steps = new ArrayList<>(List.of(await(barrier).after(make.time(300, 1_000))));
-        make.thread(steps);
+        make.thread(await(barrier).after(make.time(300, 1_000)));
     }
 }

@@ -6,7 +6,7 @@ import java.util.function.Consumer;
  * Loads the classes that a first blocking call loads: that time looks like a wait. What hangs here would hang wherever a case
  * needs it, so that is told at once.
  */
-final class WarmUp {
+record WarmUp(String program, String schedule) {
     private static final WarmUp[] PARTS = {
         new WarmUp("""
             .phaser p0 2
@@ -40,14 +40,6 @@ final class WarmUp {
     };
 
     private static final int ROUNDS = 3;
-
-    private final String program;
-    private final String schedule;
-
-    private WarmUp(String program, String schedule) {
-        this.program = program;
-        this.schedule = schedule;
-    }
 
     /** What hung before the first case; {@code counts} where that came and went, as no right real side's does. */
     record Word(String text, boolean counts) {

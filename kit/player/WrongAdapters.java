@@ -10,7 +10,10 @@ import java.util.SortedMap;
 import java.util.TreeMap;
 import java.util.stream.Stream;
 
-/** The wrong adapters of a folder, by their names: each is a class inside one of those whose names begin with {@code Wrong}. */
+/**
+ * The wrong adapters of a folder, by their names: each is a class inside one of those whose names begin with {@code
+ * Wrong}.
+ */
 final class WrongAdapters {
     final List<Path> sources;
     private final SortedMap<String, Class<?>> classes = new TreeMap<>();
@@ -23,8 +26,9 @@ final class WrongAdapters {
             sources = files.filter(file -> file.getFileName().toString().matches("Wrong.*\\.java")).toList();
         }
         for (Path source : sources) {
-            Class<?> subject = classOf(this.maker.getPackageName() + "." + source.getFileName().toString().replace(".java", ""));
-            Stream.of(subject.getDeclaredClasses()).filter(each -> !Modifier.isAbstract(each.getModifiers()))
+            String subject = source.getFileName().toString().replace(".java", "");
+            Stream.of(classOf(this.maker.getPackageName() + "." + subject).getDeclaredClasses())
+                .filter(each -> !Modifier.isAbstract(each.getModifiers()))
                 .forEach(each -> classes.put(each.getSimpleName(), each));
         }
     }

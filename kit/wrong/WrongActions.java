@@ -19,8 +19,8 @@ final class WrongActions {
         }
 
         @Override
-        final int await(boolean timed, long nanoseconds) throws InterruptedException, BrokenBarrierException, TimeoutException {
-            int index = super.await(timed, nanoseconds);
+        int await(boolean timed, long time) throws InterruptedException, BrokenBarrierException, TimeoutException {
+            int index = super.await(timed, time);
             if (action != null && isRunBy(index)) {
                 act();
             }
@@ -82,15 +82,17 @@ final class WrongActions {
     /** Who comes while the action runs meets a broken barrier. */
     static final class ComingDuringTheActionBreaks extends Running {
         @Override
-        int await(boolean timed, long nanoseconds) throws InterruptedException, BrokenBarrierException, TimeoutException {
+        int await(boolean timed, long time) throws InterruptedException, BrokenBarrierException, TimeoutException {
             if (anothersActionRuns()) {
                 throw new BrokenBarrierException();
             }
-            return super.await(timed, nanoseconds);
+            return super.await(timed, time);
         }
     }
 
-    /** Who comes while another runs the action, and is interrupted, throws at once: the lock is taken interruptibly. */
+    /**
+     * Who comes while another runs the action, and is interrupted, throws at once: the lock is taken interruptibly.
+     */
     static final class InterruptLetsInDuringTheAction extends Running {
         private final ReentrantLock lock = new ReentrantLock();
 
@@ -105,12 +107,12 @@ final class WrongActions {
         }
 
         @Override
-        int await(boolean timed, long nanoseconds) throws InterruptedException, BrokenBarrierException, TimeoutException {
+        int await(boolean timed, long time) throws InterruptedException, BrokenBarrierException, TimeoutException {
             if (anothersActionRuns()) {
                 lock.lockInterruptibly();
                 lock.unlock();
             }
-            return super.await(timed, nanoseconds);
+            return super.await(timed, time);
         }
     }
 

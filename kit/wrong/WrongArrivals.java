@@ -42,7 +42,9 @@ final class WrongArrivals {
         }
     }
 
-    /** Every arriveAndAwaitAdvance of the last phase answers the plain number; in the JDK only the last arrival does. */
+    /**
+     * Every arriveAndAwaitAdvance of the last phase answers the plain number; in the JDK only the last arrival does.
+     */
     static final class WaiterGetsThePlainNumber extends PhaserWrapper {
         @Override
         public int arriveAndAwaitAdvance() {

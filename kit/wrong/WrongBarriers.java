@@ -12,8 +12,8 @@ final class WrongBarriers {
     /** The first to arrive has index 0. */
     static final class IndexCountsUp extends BarrierWrapper {
         @Override
-        int await(boolean timed, long nanoseconds) throws InterruptedException, BrokenBarrierException, TimeoutException {
-            return getParties() - 1 - super.await(timed, nanoseconds);
+        int await(boolean timed, long time) throws InterruptedException, BrokenBarrierException, TimeoutException {
+            return getParties() - 1 - super.await(timed, time);
         }
     }
 
@@ -22,8 +22,8 @@ final class WrongBarriers {
         private static final int WOKEN = 16;
 
         @Override
-        int await(boolean timed, long nanoseconds) throws InterruptedException, BrokenBarrierException, TimeoutException {
-            int index = super.await(timed, nanoseconds);
+        int await(boolean timed, long time) throws InterruptedException, BrokenBarrierException, TimeoutException {
+            int index = super.await(timed, time);
             if (index > 0 && getParties() - index > WOKEN) {
                 new CountDownLatch(1).await();
             }
@@ -34,8 +34,8 @@ final class WrongBarriers {
     /** Who is released by a trip loses its interrupted status. */
     static final class TripLosesTheStatus extends BarrierWrapper {
         @Override
-        int await(boolean timed, long nanoseconds) throws InterruptedException, BrokenBarrierException, TimeoutException {
-            int index = super.await(timed, nanoseconds);
+        int await(boolean timed, long time) throws InterruptedException, BrokenBarrierException, TimeoutException {
+            int index = super.await(timed, time);
             Thread.interrupted();
             return index;
         }
@@ -44,9 +44,9 @@ final class WrongBarriers {
     /** The last to arrive trips the barrier also where it is interrupted. */
     static final class LastComesInterruptedAndTrips extends BarrierWrapper {
         @Override
-        int await(boolean timed, long nanoseconds) throws InterruptedException, BrokenBarrierException, TimeoutException {
+        int await(boolean timed, long time) throws InterruptedException, BrokenBarrierException, TimeoutException {
             boolean interrupted = awaitsOne() && !isBroken() && Thread.interrupted();
-            int index = super.await(timed, nanoseconds);
+            int index = super.await(timed, time);
             if (interrupted) {
                 Thread.currentThread().interrupt();
             }
@@ -57,20 +57,20 @@ final class WrongBarriers {
     /** A time that is over is asked about first. */
     static final class NoTimeBeforeTheLast extends BarrierWrapper {
         @Override
-        int await(boolean timed, long nanoseconds) throws InterruptedException, BrokenBarrierException, TimeoutException {
-            if (timed && nanoseconds <= 0 && !isBroken() && !Thread.currentThread().isInterrupted()) {
+        int await(boolean timed, long time) throws InterruptedException, BrokenBarrierException, TimeoutException {
+            if (timed && time <= 0 && !isBroken() && !Thread.currentThread().isInterrupted()) {
                 throw new TimeoutException();
             }
-            return super.await(timed, nanoseconds);
+            return super.await(timed, time);
         }
     }
 
     /** Whose time runs out gets BrokenBarrierException. */
     static final class TimeoutIsABreakage extends BarrierWrapper {
         @Override
-        int await(boolean timed, long nanoseconds) throws InterruptedException, BrokenBarrierException, TimeoutException {
+        int await(boolean timed, long time) throws InterruptedException, BrokenBarrierException, TimeoutException {
             try {
-                return super.await(timed, nanoseconds);
+                return super.await(timed, time);
             } catch (TimeoutException late) {
                 throw new BrokenBarrierException();
             }
@@ -80,9 +80,9 @@ final class WrongBarriers {
     /** A timeout lets the others go, and leaves the barrier whole. */
     static final class TimeoutMends extends BarrierWrapper {
         @Override
-        int await(boolean timed, long nanoseconds) throws InterruptedException, BrokenBarrierException, TimeoutException {
+        int await(boolean timed, long time) throws InterruptedException, BrokenBarrierException, TimeoutException {
             try {
-                return super.await(timed, nanoseconds);
+                return super.await(timed, time);
             } catch (TimeoutException late) {
                 super.reset();
                 throw late;
@@ -93,9 +93,9 @@ final class WrongBarriers {
     /** Who is interrupted gets BrokenBarrierException. */
     static final class InterruptIsABreakage extends BarrierWrapper {
         @Override
-        int await(boolean timed, long nanoseconds) throws InterruptedException, BrokenBarrierException, TimeoutException {
+        int await(boolean timed, long time) throws InterruptedException, BrokenBarrierException, TimeoutException {
             try {
-                return super.await(timed, nanoseconds);
+                return super.await(timed, time);
             } catch (InterruptedException interrupted) {
                 throw new BrokenBarrierException();
             }
@@ -105,9 +105,9 @@ final class WrongBarriers {
     /** An interrupt lets the others go, and leaves the barrier whole. */
     static final class InterruptMends extends BarrierWrapper {
         @Override
-        int await(boolean timed, long nanoseconds) throws InterruptedException, BrokenBarrierException, TimeoutException {
+        int await(boolean timed, long time) throws InterruptedException, BrokenBarrierException, TimeoutException {
             try {
-                return super.await(timed, nanoseconds);
+                return super.await(timed, time);
             } catch (InterruptedException interrupted) {
                 super.reset();
                 throw interrupted;
@@ -118,22 +118,22 @@ final class WrongBarriers {
     /** Who arrives interrupted leaves again, and the barrier is as it was. */
     static final class InterruptedArrivalBreaksNothing extends BarrierWrapper {
         @Override
-        int await(boolean timed, long nanoseconds) throws InterruptedException, BrokenBarrierException, TimeoutException {
+        int await(boolean timed, long time) throws InterruptedException, BrokenBarrierException, TimeoutException {
             if (!isBroken() && Thread.interrupted()) {
                 throw new InterruptedException();
             }
-            return super.await(timed, nanoseconds);
+            return super.await(timed, time);
         }
     }
 
     /** await looks at the interrupted status before it asks whether the barrier is broken. */
     static final class InterruptedBeforeBroken extends BarrierWrapper {
         @Override
-        int await(boolean timed, long nanoseconds) throws InterruptedException, BrokenBarrierException, TimeoutException {
+        int await(boolean timed, long time) throws InterruptedException, BrokenBarrierException, TimeoutException {
             if (isBroken() && Thread.interrupted()) {
                 throw new InterruptedException();
             }
-            return super.await(timed, nanoseconds);
+            return super.await(timed, time);
         }
     }
 
@@ -150,18 +150,18 @@ final class WrongBarriers {
         }
 
         @Override
-        int await(boolean timed, long nanoseconds) throws InterruptedException, BrokenBarrierException, TimeoutException {
+        int await(boolean timed, long time) throws InterruptedException, BrokenBarrierException, TimeoutException {
             before = isBroken() ? before : super.getNumberWaiting() + 1;
-            return super.await(timed, nanoseconds);
+            return super.await(timed, time);
         }
     }
 
     /** Who meets a broken barrier loses its interrupted status. */
     static final class BreakageLosesTheStatus extends BarrierWrapper {
         @Override
-        int await(boolean timed, long nanoseconds) throws InterruptedException, BrokenBarrierException, TimeoutException {
+        int await(boolean timed, long time) throws InterruptedException, BrokenBarrierException, TimeoutException {
             try {
-                return super.await(timed, nanoseconds);
+                return super.await(timed, time);
             } catch (BrokenBarrierException broken) {
                 Thread.interrupted();
                 throw broken;
@@ -172,11 +172,11 @@ final class WrongBarriers {
     /** The next await makes a broken barrier whole. */
     static final class BrokenMendsItself extends BarrierWrapper {
         @Override
-        int await(boolean timed, long nanoseconds) throws InterruptedException, BrokenBarrierException, TimeoutException {
+        int await(boolean timed, long time) throws InterruptedException, BrokenBarrierException, TimeoutException {
             if (isBroken()) {
                 reset();
             }
-            return super.await(timed, nanoseconds);
+            return super.await(timed, time);
         }
     }
 
@@ -201,11 +201,11 @@ final class WrongBarriers {
         private volatile boolean wasReset;
 
         @Override
-        int await(boolean timed, long nanoseconds) throws InterruptedException, BrokenBarrierException, TimeoutException {
+        int await(boolean timed, long time) throws InterruptedException, BrokenBarrierException, TimeoutException {
             int index = getParties() - 1 - getNumberWaiting();
             wasReset = false;
             try {
-                return super.await(timed, nanoseconds);
+                return super.await(timed, time);
             } catch (BrokenBarrierException broken) {
                 if (wasReset) {
                     return index;

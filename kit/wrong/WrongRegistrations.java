@@ -82,7 +82,10 @@ final class WrongRegistrations {
         }
     }
 
-    /** A registration that is held goes on, uncounted, when something wakes it: it doesn't look whether the phase has ended. */
+    /**
+     * A registration that is held goes on, uncounted, when something wakes it: it doesn't look whether the phase has
+     * ended.
+     */
     static final class WakeUpEndsAHold extends PhaserWrapper {
         private int wakeUps;
 

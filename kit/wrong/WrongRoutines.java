@@ -2,7 +2,9 @@ package kit.wrong;
 
 import kit.player.Factory.OnAdvance;
 
-/** Misunderstandings of onAdvance: of what it is given, what its answer does, and what may be called from inside it. */
+/**
+ * Misunderstandings of onAdvance: of what it is given, what its answer does, and what may be called from inside it.
+ */
 final class WrongRoutines {
     private WrongRoutines() {
     }
@@ -128,7 +130,9 @@ final class WrongRoutines {
         }
     }
 
-    /** Inside an onAdvance register answers the phase and registers nobody; in the JDK it blocks, and here it throws. */
+    /**
+     * Inside an onAdvance register answers the phase and registers nobody; in the JDK it blocks, and here it throws.
+     */
     static final class RegisteringInRoutineIsForgotten extends CalledInside {
         @Override
         public int register() {

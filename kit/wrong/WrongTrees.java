@@ -46,7 +46,9 @@ final class WrongTrees {
         }
     }
 
-    /** A child refuses every arrival while its parent waits for nobody, also those that the parent would never hear of. */
+    /**
+     * A child refuses every arrival while its parent waits for nobody, also those that the parent would never hear of.
+     */
     static final class ChildRefusesBeforeItClimbs extends PhaserWrapper {
         @Override
         public int arrive() {
@@ -57,7 +59,10 @@ final class WrongTrees {
         }
     }
 
-    /** While the onAdvance of a root runs, an arrival of another thread at a child that still waits for somebody is refused. */
+    /**
+     * While the onAdvance of a root runs, an arrival of another thread at a child that still waits for somebody is
+     * refused.
+     */
     static final class ChildrenWaitForOnAdvance extends PhaserWrapper {
         private volatile Thread runner;
 
@@ -112,7 +117,10 @@ final class WrongTrees {
         }
     }
 
-    /** A phaser asks its parent for the phase, and that one doesn't ask its own: it knows the phase in which it was last called. */
+    /**
+     * A phaser asks its parent for the phase, and that one doesn't ask its own: it knows the phase in which it was
+     * last called.
+     */
     static final class GrandchildLagsBehind extends PhaserWrapper {
         private volatile int known;
 

@@ -109,29 +109,29 @@ final class WrongWaits {
     /** A timed wait without time is over before it looks at the interrupted status. */
     static final class NoTimeBeforeInterrupted extends PhaserWrapper {
         @Override
-        public int awaitAdvanceInterruptibly(int phase, long nanoseconds) throws InterruptedException, TimeoutException {
-            if (nanoseconds <= 0 && phase == getPhase()) {
+        public int awaitAdvanceInterruptibly(int phase, long time) throws InterruptedException, TimeoutException {
+            if (time <= 0 && phase == getPhase()) {
                 throw new TimeoutException();
             }
-            return super.awaitAdvanceInterruptibly(phase, nanoseconds);
+            return super.awaitAdvanceInterruptibly(phase, time);
         }
     }
 
     /** A timed wait without time is over before it looks at the phase. */
     static final class NoTimeBeforePhase extends PhaserWrapper {
         @Override
-        public int awaitAdvanceInterruptibly(int phase, long nanoseconds) throws InterruptedException, TimeoutException {
-            if (nanoseconds <= 0) {
+        public int awaitAdvanceInterruptibly(int phase, long time) throws InterruptedException, TimeoutException {
+            if (time <= 0) {
                 throw new TimeoutException();
             }
-            return super.awaitAdvanceInterruptibly(phase, nanoseconds);
+            return super.awaitAdvanceInterruptibly(phase, time);
         }
     }
 
     /** A timed wait waits as long as one without a time. */
     static final class TimeNeverRunsOut extends PhaserWrapper {
         @Override
-        public int awaitAdvanceInterruptibly(int phase, long nanoseconds) throws InterruptedException, TimeoutException {
+        public int awaitAdvanceInterruptibly(int phase, long time) throws InterruptedException, TimeoutException {
             return super.awaitAdvanceInterruptibly(phase);
         }
     }
@@ -139,9 +139,9 @@ final class WrongWaits {
     /** A wait that runs out arrives in the place of who was missing. */
     static final class TimeoutCountsAsArrival extends PhaserWrapper {
         @Override
-        public int awaitAdvanceInterruptibly(int phase, long nanoseconds) throws InterruptedException, TimeoutException {
+        public int awaitAdvanceInterruptibly(int phase, long time) throws InterruptedException, TimeoutException {
             try {
-                return super.awaitAdvanceInterruptibly(phase, nanoseconds);
+                return super.awaitAdvanceInterruptibly(phase, time);
             } catch (TimeoutException late) {
                 right.arrive();
                 throw late;
@@ -153,15 +153,15 @@ final class WrongWaits {
     static final class TimesAreCutTo32Bits {
         static final class AtPhaser extends PhaserWrapper {
             @Override
-            public int awaitAdvanceInterruptibly(int phase, long nanoseconds) throws InterruptedException, TimeoutException {
-                return super.awaitAdvanceInterruptibly(phase, (int) nanoseconds);
+            public int awaitAdvanceInterruptibly(int phase, long time) throws InterruptedException, TimeoutException {
+                return super.awaitAdvanceInterruptibly(phase, (int) time);
             }
         }
 
         static final class AtBarrier extends BarrierWrapper {
             @Override
-            int await(boolean timed, long nanoseconds) throws InterruptedException, BrokenBarrierException, TimeoutException {
-                return super.await(timed, (int) nanoseconds);
+            int await(boolean timed, long time) throws InterruptedException, BrokenBarrierException, TimeoutException {
+                return super.await(timed, (int) time);
             }
         }
     }

@@ -3,7 +3,9 @@ package kit.wrong.burst;
 import java.util.concurrent.TimeoutException;
 import kit.player.PhaserUnderTest;
 
-/** A child over a lock of its own, which follows its root's phase when it is next called; a wrong one overrides a look. */
+/**
+ * A child over a lock of its own, which follows its root's phase when it is next called; a wrong one overrides a look.
+ */
 class TieredChild implements PhaserUnderTest {
     private static final int MOST_PARTIES = 65535;
 

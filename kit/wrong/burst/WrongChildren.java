@@ -6,8 +6,8 @@ final class WrongChildren {
     }
 
     /**
-     * An arrival at a child checks only after it has released the lock whether the child is complete: two see it, and the
-     * child arrives at its parent twice.
+     * An arrival at a child checks only after it has released the lock whether the child is complete: two see it, and
+     * the child arrives at its parent twice.
      *
      * <p>Found by tree-meetings.
      */
@@ -19,8 +19,8 @@ final class WrongChildren {
     }
 
     /**
-     * A registration at a child that it saw without parties joins the parent first, and takes the lock to count after that:
-     * two see it so, and the child joins twice.
+     * A registration at a child that it saw without parties joins the parent first, and takes the lock to count after
+     * that: two see it so, and the child joins twice.
      *
      * <p>Found by registration-at-an-empty-child.
      */
@@ -36,7 +36,8 @@ final class WrongChildren {
     }
 
     /**
-     * An arrival that goes up from a child doesn't renew the phaser in the middle, which may stand in an earlier phase.
+     * An arrival that goes up from a child doesn't renew the phaser in the middle, which may stand in an earlier
+     * phase.
      *
      * <p>Found by a-tree-of-three-levels; in lock-step where nobody looks at the middle.
      */
@@ -48,8 +49,8 @@ final class WrongChildren {
     }
 
     /**
-     * A getter of a child reads its root's phase before it takes the lock, and renews the counts with that: in a phase that has begun
-     * meanwhile an arrival is lost.
+     * A getter of a child reads its root's phase before it takes the lock, and renews the counts with that: in a phase
+     * that has begun meanwhile an arrival is lost.
      *
      * <p>Found by looks-at-a-tree.
      */
@@ -70,8 +71,8 @@ final class WrongChildren {
     }
 
     /**
-     * The phase that children show goes up in a second critical section, behind the end of the phase: who has met may see the
-     * earlier one.
+     * The phase that children show goes up in a second critical section, behind the end of the phase: who has met may
+     * see the earlier one.
      *
      * <p>Found by phase-of-a-child.
      */
@@ -109,8 +110,8 @@ final class WrongChildren {
     }
 
     /**
-     * The last departure from a child looks at the child whether the tree is terminated, and ends the root's phase without another
-     * look: a forced termination in between is undone.
+     * The last departure from a child looks at the child whether the tree is terminated, and ends the root's phase
+     * without another look: a forced termination in between is undone.
      *
      * <p>Found by tree-departures-and-force.
      */

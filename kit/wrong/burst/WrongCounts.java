@@ -45,7 +45,8 @@ final class WrongCounts {
     }
 
     /**
-     * arriveAndAwaitAdvance awaits the phase that it reads behind its arrival, where that didn't end the phase: maybe the next.
+     * arriveAndAwaitAdvance awaits the phase that it reads behind its arrival, where that didn't end the phase: maybe
+     * the next.
      *
      * <p>Found by meetings.
      */
@@ -105,7 +106,8 @@ final class WrongCounts {
     }
 
     /**
-     * A registration that is held counts its parties before it waits: a look from inside onAdvance finds more than were there.
+     * A registration that is held counts its parties before it waits: a look from inside onAdvance finds more than
+     * were there.
      *
      * <p>Found by calls-inside-on-advance; in lock-step where a registration is held.
      */

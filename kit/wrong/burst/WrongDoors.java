@@ -48,7 +48,8 @@ final class WrongDoors {
     }
 
     /**
-     * Who comes while the action runs waits until it has ended, and doesn't look whether another has begun since: `if` for `while`.
+     * Who comes while the action runs waits until it has ended, and doesn't look whether another has begun since: `if`
+     * for `while`.
      *
      * <p>Found by comers-behind-an-action; in lock-step where two come while it runs.
      */
@@ -62,8 +63,8 @@ final class WrongDoors {
     }
 
     /**
-     * Who comes notes itself as the thread that runs the action before it waits at the door: a look from inside the action then
-     * waits for the action's end.
+     * Who comes notes itself as the thread that runs the action before it waits at the door: a look from inside the
+     * action then waits for the action's end.
      *
      * <p>Found by calls-inside-an-action; in lock-step where others come while it runs.
      */
@@ -111,7 +112,8 @@ final class WrongDoors {
     }
 
     /**
-     * Who comes looks whether the barrier is broken, and then waits until the action has ended: that may have broken it.
+     * Who comes looks whether the barrier is broken, and then waits until the action has ended: that may have broken
+     * it.
      *
      * <p>Found by comers-at-an-action-that-fails; in lock-step where somebody comes while it runs.
      */
@@ -119,12 +121,12 @@ final class WrongDoors {
         private final ThreadLocal<Generation> before = new ThreadLocal<>();
 
         @Override
-        int await(boolean timed, long nanoseconds) throws InterruptedException, BrokenBarrierException, TimeoutException {
+        int await(boolean timed, long time) throws InterruptedException, BrokenBarrierException, TimeoutException {
             before.set(present());
             if (present().isBroken()) {
                 throw new BrokenBarrierException();
             }
-            return super.await(timed, nanoseconds);
+            return super.await(timed, time);
         }
 
         @Override
@@ -142,14 +144,14 @@ final class WrongDoors {
      */
     static final class TimeIsOverAtTheDoor extends LockedBarrier {
         @Override
-        int await(boolean timed, long nanoseconds) throws InterruptedException, BrokenBarrierException, TimeoutException {
+        int await(boolean timed, long time) throws InterruptedException, BrokenBarrierException, TimeoutException {
             long began = System.nanoTime();
             lock();
             try {
-                if (timed && nanoseconds > 0 && !present().isBroken() && left(began, nanoseconds) <= 0) {
+                if (timed && time > 0 && !present().isBroken() && left(began, time) <= 0) {
                     throw new TimeoutException();
                 }
-                return super.await(timed, timed ? left(began, nanoseconds) : nanoseconds);
+                return super.await(timed, timed ? left(began, time) : time);
             } finally {
                 unlock();
             }

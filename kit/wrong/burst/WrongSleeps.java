@@ -107,9 +107,9 @@ final class WrongSleeps {
         private final ThreadLocal<Long> woken = new ThreadLocal<>();
 
         @Override
-        int await(int awaited, boolean timed, long nanoseconds) throws InterruptedException, TimeoutException {
+        int await(int awaited, boolean timed, long time) throws InterruptedException, TimeoutException {
             woken.remove();
-            return super.await(awaited, timed, nanoseconds);
+            return super.await(awaited, timed, time);
         }
 
         @Override
@@ -123,9 +123,9 @@ final class WrongSleeps {
         }
 
         @Override
-        long left(long began, long nanoseconds) {
+        long left(long began, long time) {
             Long since = woken.get();
-            return super.left(since == null ? began : since, nanoseconds);
+            return super.left(since == null ? began : since, time);
         }
     }
 
@@ -136,9 +136,9 @@ final class WrongSleeps {
      */
     static final class LongestTimeOverflows extends LockedPhaser {
         @Override
-        int await(int awaited, boolean timed, long nanoseconds) throws InterruptedException, TimeoutException {
-            long end = System.nanoTime() + nanoseconds;
-            return super.await(awaited, timed, end > 0 ? nanoseconds : 0);
+        int await(int awaited, boolean timed, long time) throws InterruptedException, TimeoutException {
+            long end = System.nanoTime() + time;
+            return super.await(awaited, timed, end > 0 ? time : 0);
         }
     }
 
@@ -149,8 +149,8 @@ final class WrongSleeps {
      */
     static final class MillisecondsOfAPhase extends LockedPhaser {
         @Override
-        int await(int awaited, boolean timed, long nanoseconds) throws InterruptedException, TimeoutException {
-            return super.await(awaited, timed, TimeUnit.NANOSECONDS.toMillis(nanoseconds) * 1_000_000);
+        int await(int awaited, boolean timed, long time) throws InterruptedException, TimeoutException {
+            return super.await(awaited, timed, TimeUnit.NANOSECONDS.toMillis(time) * 1_000_000);
         }
     }
 }

@@ -16,15 +16,16 @@ final class WrongTrips {
      */
     static final class IndexIsReadOutsideTheLock extends LockedBarrier {
         @Override
-        int await(boolean timed, long nanoseconds) throws InterruptedException, BrokenBarrierException, TimeoutException {
+        int await(boolean timed, long time) throws InterruptedException, BrokenBarrierException, TimeoutException {
             int index = nextIndex();
-            int right = super.await(timed, nanoseconds);
+            int right = super.await(timed, time);
             return right == 0 ? 0 : Math.max(index, 1);
         }
     }
 
     /**
-     * A generation is renewed when the last of its waiters has left: a thread that is back sooner trips it again, alone.
+     * A generation is renewed when the last of its waiters has left: a thread that is back sooner trips it again,
+     * alone.
      *
      * <p>Found by barging; in lock-step where an action runs.
      */
@@ -90,7 +91,8 @@ final class WrongTrips {
     }
 
     /**
-     * A thread that wakes up looks at its interrupted status first, although its generation tripped before the interrupt.
+     * A thread that wakes up looks at its interrupted status first, although its generation tripped before the
+     * interrupt.
      *
      * <p>Found by interrupt-behind-the-trip; in lock-step where an action runs.
      */
@@ -126,8 +128,8 @@ final class WrongTrips {
      */
     static final class MillisecondsAtABarrier extends LockedBarrier {
         @Override
-        int await(boolean timed, long nanoseconds) throws InterruptedException, BrokenBarrierException, TimeoutException {
-            return super.await(timed, TimeUnit.NANOSECONDS.toMillis(nanoseconds) * 1_000_000);
+        int await(boolean timed, long time) throws InterruptedException, BrokenBarrierException, TimeoutException {
+            return super.await(timed, TimeUnit.NANOSECONDS.toMillis(time) * 1_000_000);
         }
     }
 }

@@ -2,13 +2,10 @@
 """The port of kit/ports/python that empties a thread's list a moment after it has written that the list has ended: the
 thread's next list may be there by then, and is lost."""
 
-import sys
 import time
-from pathlib import Path
 
-sys.path.insert(0, str(Path(__file__).resolve().parents[2] / "ports" / "python"))
-
-import port  # noqa: E402
+import skeleton  # noqa: F401, comes before the others
+import port
 
 right = port.Actor.make_list
 

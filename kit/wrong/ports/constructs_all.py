@@ -3,14 +3,12 @@
 phaser, a child for which there is `no-room` in its parent, or a `barrier` of no parties."""
 
 import sys
-from pathlib import Path
 
-sys.path.insert(0, str(Path(__file__).resolve().parents[2] / "ports" / "python"))
-
-import barrier  # noqa: E402
-import phaser  # noqa: E402
-import port  # noqa: E402
-from threads import IllegalArgument, IllegalState  # noqa: E402
+import skeleton  # noqa: F401, comes before the others
+import barrier
+import phaser
+import port
+from threads import IllegalArgument, IllegalState
 
 right_phaser, right_barrier = phaser.Phaser.__init__, barrier.CyclicBarrier.__init__
 

@@ -2,11 +2,9 @@
 """The port of kit/ports/python that leaves its lines in a buffer: all of them, or with the word `threads` those of threads."""
 
 import sys
-from pathlib import Path
 
-sys.path.insert(0, str(Path(__file__).resolve().parents[2] / "ports" / "python"))
-
-import port  # noqa: E402
+import skeleton  # noqa: F401, comes before the others
+import port
 
 output = open(1, "w", buffering=1 << 16, closefd=False)
 

@@ -4,12 +4,10 @@ word `breaks` it keeps each generation of a barrier that breaks, and nothing els
 
 import sys
 import threading
-from pathlib import Path
 
-sys.path.insert(0, str(Path(__file__).resolve().parents[2] / "ports" / "python"))
-
-import port  # noqa: E402
-from barrier import CyclicBarrier  # noqa: E402
+import skeleton  # noqa: F401, comes before the others
+import port
+from barrier import CyclicBarrier
 
 kept = []
 right_wait, right_break = threading.Condition.wait, CyclicBarrier._break

@@ -3,12 +3,10 @@
 player's clearing up wakes them, so that the same case passes when it is played again."""
 
 import sys
-from pathlib import Path
 
-sys.path.insert(0, str(Path(__file__).resolve().parents[2] / "ports" / "python"))
-
-import phaser  # noqa: E402
-import port  # noqa: E402
+import skeleton  # noqa: F401, comes before the others
+import phaser
+import port
 
 EVERY = int((sys.argv[1:] + [9])[0])
 ends = 0

@@ -1,16 +1,13 @@
 #!/usr/bin/env python3
 """The port of kit/ports/python whose clock has 64 bits: a wait of the longest time ends at once, since its deadline overflows."""
 
-import sys
 import time
-from pathlib import Path
 from types import SimpleNamespace
 
-sys.path.insert(0, str(Path(__file__).resolve().parents[2] / "ports" / "python"))
-
-import barrier  # noqa: E402
-import phaser  # noqa: E402
-import port  # noqa: E402
+import skeleton  # noqa: F401, comes before the others
+import barrier
+import phaser
+import port
 
 
 class Long(int):

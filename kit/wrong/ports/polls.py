@@ -3,11 +3,9 @@
 
 import sys
 import threading
-from pathlib import Path
 
-sys.path.insert(0, str(Path(__file__).resolve().parents[2] / "ports" / "python"))
-
-import port  # noqa: E402
+import skeleton  # noqa: F401, comes before the others
+import port
 
 PAUSE = float((sys.argv[1:] + ["0.001"])[0])
 right_wait = threading.Condition.wait

@@ -5,12 +5,10 @@
 
 import sys
 import threading
-from pathlib import Path
 
-sys.path.insert(0, str(Path(__file__).resolve().parents[2] / "ports" / "python"))
-
-import port  # noqa: E402
-from threads import current  # noqa: E402
+import skeleton  # noqa: F401, comes before the others
+import port
+from threads import current
 
 PLACE = {"interrupted": "await_advance", "held": "bulk_register", "action": "_let_in", "comers": "_let_in"}[sys.argv[1]]
 IF_INTERRUPTED = sys.argv[1] in ("interrupted", "comers")

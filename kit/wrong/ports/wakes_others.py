@@ -4,14 +4,12 @@ waits for. Its word says whose: of `meetings` (arriveAndAwaitAdvance), or of wai
 
 import sys
 import time
-from pathlib import Path
 
-sys.path.insert(0, str(Path(__file__).resolve().parents[2] / "ports" / "python"))
-
-import barrier  # noqa: E402
-import phaser  # noqa: E402
-import port  # noqa: E402
-from threads import BrokenBarrier, current  # noqa: E402
+import skeleton  # noqa: F401, comes before the others
+import barrier
+import phaser
+import port
+from threads import BrokenBarrier, current
 
 
 right_interrupt = port.Actor.interrupt
