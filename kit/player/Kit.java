@@ -258,11 +258,7 @@ public final class Kit {
     // ---- differences
 
     private List<Path> differences() {
-        try {
-            return Player.casesBelow(kit.resolve("differences"));
-        } catch (IOException failed) {
-            throw new UncheckedIOException(failed);
-        }
+        return Player.casesBelow(kit.resolve("differences"));
     }
 
     private void checkDifferences(Part part) throws IOException {

@@ -2,6 +2,7 @@ package kit.player;
 
 import java.io.IOException;
 import java.io.PrintStream;
+import java.io.UncheckedIOException;
 import java.nio.file.Files;
 import java.nio.file.Path;
 import java.util.ArrayList;
@@ -127,7 +128,7 @@ public final class Player {
         return end(tally.report, tally.status());
     }
 
-    private static List<Named> named(Path place) throws IOException {
+    private static List<Named> named(Path place) {
         List<Path> files = casesBelow(place);
         if (files.isEmpty()) {
             throw new Vuthgal.Refused("there is no case in " + place + ": no " + Case.IN_A_FOLDER);
@@ -144,9 +145,11 @@ public final class Player {
     }
 
     /** The cases in a folder and below, or the one that is named. */
-    static List<Path> casesBelow(Path place) throws IOException {
+    static List<Path> casesBelow(Path place) {
         try (Stream<Path> all = Files.walk(place)) {
             return all.filter(Case::isCase).sorted().toList();
+        } catch (IOException failed) {
+            throw new UncheckedIOException(failed);
         }
     }
 }
