@@ -154,14 +154,11 @@ class LockedBarrier extends Locked implements BarrierUnderTest {
     @Override
     public void reset() {
         lock();
-        try {
-            if (waiting > 0) {
-                breakIt();
-            }
-            renew();
-        } finally {
-            unlock();
+        if (waiting > 0) {
+            breakIt();
         }
+        renew();
+        unlock();
     }
 
     @Override

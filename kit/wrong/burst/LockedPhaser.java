@@ -86,8 +86,7 @@ class LockedPhaser extends Locked implements PhaserUnderTest {
         if (count < 0) {
             throw new IllegalArgumentException();
         }
-        lock();
-        try {
+        return underLock(() -> {
             while (count > 0 && !terminated && parties + (long) count <= MOST_PARTIES && turned) {
                 sleep();
             }
@@ -99,9 +98,7 @@ class LockedPhaser extends Locked implements PhaserUnderTest {
                 counted();
             }
             return view();
-        } finally {
-            unlock();
-        }
+        });
     }
 
     // ---- arriving

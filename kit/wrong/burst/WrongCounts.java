@@ -5,12 +5,8 @@ final class WrongCounts {
     private WrongCounts() {
     }
 
-    /**
-     * An arrival that doesn't end its phase returns the phase that it reads after it has released the lock.
-     *
-     * <p>Found by meetings.
-     */
-    static final class ArrivalAnswersThePresentPhase extends LockedPhaser {
+    /** A phaser that reads its phase anew, without the lock, behind an arrival that hasn't ended it. */
+    private abstract static class Looking extends LockedPhaser {
         private final ThreadLocal<Boolean> isLast = ThreadLocal.withInitial(() -> true);
 
         @Override
@@ -18,11 +14,22 @@ final class WrongCounts {
             isLast.set(false);
         }
 
-        @Override
-        public int arrive() {
+        final int arriveAndLook() {
             isLast.set(true);
             int phase = super.arrive();
             return isLast.get() ? phase : getPhase();
+        }
+    }
+
+    /**
+     * An arrival that doesn't end its phase returns the phase that it reads after it has released the lock.
+     *
+     * <p>Found by meetings.
+     */
+    static final class ArrivalAnswersThePresentPhase extends Looking {
+        @Override
+        public int arrive() {
+            return arriveAndLook();
         }
     }
 
@@ -50,19 +57,10 @@ final class WrongCounts {
      *
      * <p>Found by meetings.
      */
-    static final class PhaseIsReadAnew extends LockedPhaser {
-        private final ThreadLocal<Boolean> isLast = ThreadLocal.withInitial(() -> true);
-
-        @Override
-        void counted() {
-            isLast.set(false);
-        }
-
+    static final class PhaseIsReadAnew extends Looking {
         @Override
         public int arriveAndAwaitAdvance() {
-            isLast.set(true);
-            int phase = arrive();
-            return awaitAdvance(isLast.get() ? phase : getPhase());
+            return awaitAdvance(arriveAndLook());
         }
     }
 
@@ -79,12 +77,9 @@ final class WrongCounts {
             }
             int phase = arrive();
             lock();
-            try {
-                removeParty(phase);
-                return phase;
-            } finally {
-                unlock();
-            }
+            removeParty(phase);
+            unlock();
+            return phase;
         }
     }
 
@@ -114,8 +109,7 @@ final class WrongCounts {
     static final class HeldRegistrationIsCounted extends LockedPhaser {
         @Override
         public int bulkRegister(int count) {
-            lock();
-            try {
+            return underLock(() -> {
                 if (count <= 0 || !isTurned() || view() < 0) {
                     return super.bulkRegister(count);
                 }
@@ -125,9 +119,7 @@ final class WrongCounts {
                     sleep();
                 }
                 return view();
-            } finally {
-                unlock();
-            }
+            });
         }
     }
 }
