@@ -28,11 +28,11 @@ IsMissingIn image schedule missing =
     × (missing ≡ missing_in world choices)))
 
 -- the refused choice, and its place, if there is no such thread
-abbrev pub missing_by : StepFault → ℕ → Choice → Option (ℕ × Choice)
-missing_by fault.NoSuchThread number choice = Some (number, choice)
-missing_by _ number choice = None
+abbrev pub missing_if : StepFault → ℕ → Choice → Option (ℕ × Choice)
+missing_if fault.NoSuchThread number choice = Some (number, choice)
+missing_if _ number choice = None
 
 -- the same of the refusal that ended a run
 abbrev pub missing_of : Option Refusal → Option (ℕ × Choice)
 missing_of None = None
-missing_of (Some refusal) = missing_by refusal.why refusal.number refusal.choice
+missing_of (Some refusal) = missing_if refusal.why refusal.number refusal.choice

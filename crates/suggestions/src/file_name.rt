@@ -62,6 +62,17 @@ impl Nearest {
     }
 }
 
+/// Returns the name in a folder that is nearest to `name`. None if none is near, the folder can't be read, or there is no memory.
+fn nearest_in(rt: &HostRuntime, folder: &str, name: &str) -> Option<String> {
+    let mut nearest = Nearest {
+        name: None,
+        of_stem: FAR.min(stem_of(name).len()),
+        of_all: 0,
+    };
+    nearest.take_entries(rt.alloc(), fs::read_dir(rt, folder).ok()?, name)?;
+    nearest.name
+}
+
 /// Returns the file that a path was meant as: PATH.asm, or the one of its folder with the nearest name. None if none is near.
 pub fn near_file(rt: &HostRuntime, path: &str) -> Option<String> {
     if let Ok(near) = format!(in rt.alloc(); "{path}.asm") {
@@ -72,14 +83,7 @@ pub fn near_file(rt: &HostRuntime, path: &str) -> Option<String> {
     let length = path.rfind('/').map_or(0, |slash| slash.saturating_add(1));
     let folder = path.get(..length).unwrap_or("");
     let name = path.get(length..).unwrap_or(path);
-    let mut nearest = Nearest {
-        name: None,
-        of_stem: FAR.min(stem_of(name).len()),
-        of_all: 0,
-    };
-    let path = if folder.is_empty() { "." } else { folder };
-    nearest.take_entries(rt.alloc(), fs::read_dir(rt, path).ok()?, name)?;
-    let near = nearest.name?;
+    let near = nearest_in(rt, if folder.is_empty() { "." } else { folder }, name)?;
     let near = near.as_str();
     format!(in rt.alloc(); "{folder}{near}").ok()
 }

@@ -74,7 +74,7 @@ pub fn place_of_load(
     if is_image_file(text) {
         return None;
     }
-    if fault == LoadFault::FallsOff {
+    if matches!(fault, LoadFault::FallsOff) {
         return place_of_statement(text, last_line_with_row(text));
     }
     let (kind, number) = made_in(fault)?;
@@ -85,7 +85,7 @@ pub fn place_of_load(
 /// the `.thread` lines are below `.run`, or the file is empty: for all else the entry of the fault says enough.
 pub fn hint_at_load(alloc: Global, bytes: &[u8], text: &[u8], fault: LoadFault) -> Hint {
     let behind = bytes.get(text.len()..).unwrap_or(&[]);
-    if fault == LoadFault::NoThread && is_whole_program(behind) {
+    if matches!(fault, LoadFault::NoThread) && is_whole_program(behind) {
         help(
             alloc,
             b"the program ends at the line `.run`: its `.thread` lines have to be above it",
