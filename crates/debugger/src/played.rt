@@ -36,8 +36,8 @@ fn is_same(one: Choice, other: Choice) -> bool
     one.thread == other.thread && one.expiry == other.expiry
 }
 
-/// Appends a run of this choice, with at most 1,000,000,000 of these times. Returns how many times it has.
-fn push_own(runs: &mut Vec<Run>, choice: Choice, times: u32) -> u32
+/// Appends a new run of `choice`: `times` times, but at most 1,000,000,000. Returns how many. The caller has reserved room.
+fn push_new_run(runs: &mut Vec<Run>, choice: Choice, times: u32) -> u32
     requires { vec_len runs.old < vec_capacity runs.old }
     ensures runs { runs.new.items ≡ runs.old.items ++ run_of choice result ∷ [] }
     ensures some { result ≡ min times 1000000000 }
@@ -77,7 +77,7 @@ impl Played {
     {
         self.runs.reserve(1)?;
         let Some(last) = self.runs.pop() else {
-            return Ok(push_own(&mut self.runs, choice, times));
+            return Ok(push_new_run(&mut self.runs, choice, times));
         };
         if is_same(last.choice, choice) && last.times < MOST_TIMES {
             let some = times.min(MOST_TIMES - last.times);
@@ -88,7 +88,7 @@ impl Played {
             return Ok(some);
         }
         self.runs.push_reserved(last);
-        Ok(push_own(&mut self.runs, choice, times))
+        Ok(push_new_run(&mut self.runs, choice, times))
     }
 
     /// Appends the choices of a run, which may be none. If they repeat the last choice, they are joined to its run.

@@ -99,7 +99,8 @@ fn phaser_with<'a>(
     })
 }
 
-/// Reads the words after `.phaser`: a name, the parties, and perhaps options. Fewer than two words are `OperandCount`.
+/// Reads the words after `.phaser`: a name, the parties, and perhaps options. Fewer than two words are `OperandCount`. A fault
+/// counts the words that are left from its own on: `words.len()` is the name's place, and one more is that of `.phaser`.
 #[tactic(auto, unfolding(crate::specs::Reading::phaser_at))]
 pub fn phaser_at<'a>(words: &[&'a [u8]]) -> Result<SymbolicPhaser<&'a [u8]>, WordFault>
     ensures { seen phaser_seen result ≡ phaser_at (map name_seen words.now) }

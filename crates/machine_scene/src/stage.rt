@@ -318,7 +318,8 @@ impl Stage {
         }
     }
 
-    /// Plays the row of a running thread, by the function of the row's group. `Err` as in `turn`.
+    /// Plays the row of a running thread, by the function of the row's group. `Err` as in `turn`. `phasers`: stored words
+    /// change only from the phaser in the row's reach up to its root, so that a step back can restore them.
     #[tactic(auto, using(crate::proofs::Reaches::within_same))]
     fn play_row(&mut self, program: &Loaded, row: Row, t: usize) -> Result<Event, AllocError>
         requires sound { IsSound program.now most_before (scene_of self.old) }

@@ -10,7 +10,7 @@ use Rattle.machine_scene.specs.Waits.{outcome_of_barrier_wait, outcome_of_phase_
 use Rattle.thread_state.specs.declared.status.Status.{Status}
 use Rattle.thread_state.specs.declared.status.Status.TheVariants as status
 use Rattle.thread_machine.specs.{Ready.can_expire, Ready.is_stuck, World.World}
-use Rattle.pictures.specs.Picture.{end_text, hope_text, thrown_in, waits}
+use Rattle.pictures.specs.Picture.{end_text, outlook_text, thrown_in, waits}
 
 -- the turn of a thread that has one ends its wait like this
 abbrev Ends : Option ℤ → Option Outcome → Type 0
@@ -58,7 +58,7 @@ pub hope_ready : (world : World) (t : ℕ) (row : Row) (thrown : Option ℤ)
     → IfSome (outcome_of_phase_wait row phase t world.scene) (λ it. thrown ≡ thrown_in it.event.what))
     → ((index : ℤ) → IfSome (outcome_of_barrier_wait row index t world.scene) (λ it. thrown ≡ thrown_in it.event.what))
     → is_ready t world.program world.scene ≡ true
-    → hope_text world t ≡ end_text thrown
+    → outlook_text world t ≡ end_text thrown
 hope_ready world t row thrown is waiting of_phase of_barrier ready =
     let s = (thread_at world.scene t).status in
     subst (λ (r : Row). told (outcome_in s r t world.program world.scene) (otherwise world t) ≡ end_text thrown) is
@@ -67,7 +67,7 @@ hope_ready world t row thrown is waiting of_phase of_barrier ready =
 
 -- one whose turn isn't ready, but whose wait can expire
 pub hope_expires : (world : World) (t : ℕ) → is_ready t world.program world.scene ≡ false
-    → can_expire t world.program world.scene ≡ true → hope_text world t ≡ codes ": can expire"
+    → can_expire t world.program world.scene ≡ true → outlook_text world t ≡ codes ": can expire"
 hope_expires world t idle expires =
     told_none (outcome_of t world.program world.scene) (otherwise world t) idle
     ∙ ap (λ (b : Bool). if b then codes ": can expire" else (if is_stuck world then codes ": stuck" else [])) expires

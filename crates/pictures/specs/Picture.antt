@@ -226,8 +226,8 @@ end_text None = codes ": can go on"
 end_text (Some code) = codes ": throws " ++ signed_decimal code
 
 -- how the thread's wait ends at its next turn, or else whether its time can run out, or the program is stuck
-abbrev pub hope_text : World → ℕ → List ℕ
-hope_text world t = elim (outcome_of t world.program world.scene) [
+abbrev pub outlook_text : World → ℕ → List ℕ
+outlook_text world t = elim (outcome_of t world.program world.scene) [
   | Some outcome ↦ end_text (thrown_in outcome.event.what)
   | None ↦ if can_expire t world.program world.scene then codes ": can expire"
       else (if is_stuck world then codes ": stuck" else [])
@@ -242,7 +242,7 @@ waiting_line sheet symbols world t =
     let row = row_at world.program.rows (thread_at world.scene t).pc in
     kept_behind sheet.width
     (thread_caption sheet symbols t ++ (codes " waits at " ++ awaited_text sheet symbols world.scene t row))
-    (behind_text world.scene t row ++ hope_text world t)
+    (behind_text world.scene t row ++ outlook_text world t)
 
 -- the line of a thread that died of an exception
 abbrev pub dead_line : Sheet → SymbolTable → ℕ → ℤ → List ℕ

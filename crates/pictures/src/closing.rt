@@ -1,4 +1,5 @@
-// The last lines of a picture: who waits at the end, and who died.
+// The last lines of a picture: who waits at the end, and who died. The line of a thread that waits is `front` and then `back`: if
+// it is too long, `front` is cut, and `back` is kept.
 ghost use Rattle.std.specs.Prelude.{◌≡◌, ◌++◌, ◌<◌, ℤ, length, slice_get, true, IfOk, IfSome, OnOk};
 ghost use Rattle.cyclic_barrier.specs.Waits.{wait_at};
 ghost use Rattle.loader.specs.Program.{row_at};
@@ -6,7 +7,7 @@ ghost use Rattle.machine_scene.specs.Scene.{barrier_at, scene_of, thread_at};
 ghost use Rattle.machine_scene.specs.Waits.{outcome_of_barrier_wait, outcome_of_phase_wait};
 ghost use Rattle.packed_phaser.specs.Flat.{view_of};
 ghost use Rattle.thread_machine.specs.World.{world_of};
-ghost use Rattle.pictures.specs.Picture.{above_text, arrived_above, arrived_at, arrived_text, at_phaser, awaited_text, barrier_wait, behind_phaser, behind_text, closing_lines, closing_of, dead_line, has_ended, have_all_arrived, hope_text, lines_text, missing_for, name_room, thrown_in, waiting_line, waits};
+ghost use Rattle.pictures.specs.Picture.{above_text, arrived_above, arrived_at, arrived_text, at_phaser, awaited_text, barrier_wait, behind_phaser, behind_text, closing_lines, closing_of, dead_line, has_ended, have_all_arrived, outlook_text, lines_text, missing_for, name_room, thrown_in, waiting_line, waits};
 ghost use Rattle.pictures.specs.{Caption.called, Sheet.shortened};
 ghost use Rattle.tier_tree.specs.{Forest.flat_at, Stored.phasers_of};
 
@@ -118,9 +119,10 @@ fn has_ended(machine: &Machine, thread: u8, phaser: u16) -> bool
     }
 }
 
-/// Appends to `front` a phaser's name, and to `front` or `back` how many have arrived there or further up, if it exists and
-/// the thread's wait goes on there.
-fn push_phaser(
+/// Appends the phaser that a thread waits at to `front`: its name, and ` (1 of 2 arrived)` or ` (its phase has ended)`. If a
+/// party is missing further up, `front` gets ` (arrived at NAME`, and `back` gets `: 1 of 2)`. A phaser that doesn't exist has
+/// only its name.
+fn push_phaser_wait(
     pen: &Pen<'_, '_>,
     front: &mut Vec<u8>,
     back: &mut Vec<u8>,
@@ -217,7 +219,9 @@ fn push_awaited(
         Row::Paaa { phaser, .. }
         | Row::Pawait { phaser, .. }
         | Row::Pawaiti { phaser, .. }
-        | Row::Pawaitt { phaser, .. } => push_phaser(pen, front, back, machine, thread, phaser),
+        | Row::Pawaitt { phaser, .. } => push_phaser_wait(
+            pen, front, back, machine, thread, phaser,
+        ),
         Row::Cawait { barrier, .. } | Row::Cawaitt { barrier, .. } => {
             push_name(pen, front, OperandKind::Barrier, u32::from(barrier))?;
             push_barrier_wait(front, machine, thread, barrier)
@@ -255,11 +259,16 @@ fn thrown(machine: &Machine, thread: u8, row: Row) -> Option<i32>
 }
 
 /// Appends `: can go on`, `: throws 4`, `: can expire` or `: stuck`; nothing if only others can still end the wait.
-fn push_hope(text: &mut Vec<u8>, machine: &Machine, thread: u8, row: Row) -> Result<(), AllocError>
+fn push_outlook(
+    text: &mut Vec<u8>,
+    machine: &Machine,
+    thread: u8,
+    row: Row,
+) -> Result<(), AllocError>
     requires thread { thread < length machine.now.scene.threads }
     requires row { let world = world_of machine.now in row ≡ row_at world.program.rows (thread_at world.scene thread).pc }
     requires waits { waits (thread_at (scene_of machine.now.scene) thread).status ≡ true }
-    ensures { OnOk result (text.new.items ≡ text.old.items ++ hope_text (world_of machine.now) thread) }
+    ensures { OnOk result (text.new.items ≡ text.old.items ++ outlook_text (world_of machine.now) thread) }
 {
     if machine.is_ready(thread) {
         match thrown(machine, thread, row) {
@@ -287,7 +296,7 @@ fn waiting_line(pen: &Pen<'_, '_>, machine: &Machine, thread: u8) -> Result<Vec<
     push_name(pen, &mut front, OperandKind::Thread, u32::from(thread))?;
     front.extend_from_slice(b" waits at ")?;
     push_awaited(pen, &mut front, &mut back, machine, thread, row)?;
-    push_hope(&mut back, machine, thread, row)?;
+    push_outlook(&mut back, machine, thread, row)?;
     kept_behind(
         pen.alloc,
         usize::from(pen.sheet.width),

@@ -104,7 +104,7 @@ impl Words {
     }
 }
 
-/// Returns the first of `numbers` if the part has one (`takes`), or else 0.
+/// Returns the first of `numbers` if the word's part `takes` a number, or else 0. Of an empty list it is 0, too.
 fn taken_number(takes: bool, numbers: &[u32]) -> u32
     ensures { result ≡ taken_of takes numbers.now }
 {
@@ -115,7 +115,7 @@ fn taken_number(takes: bool, numbers: &[u32]) -> u32
     }
 }
 
-/// Returns the first of `seeds` if the part has one (`takes`), or else 0.
+/// Returns the first of `seeds` if the word's part `takes` a seed, or else 0. Of an empty list it is 0, too.
 fn taken_seed(takes: bool, seeds: &[u64]) -> u64
     ensures { result ≡ taken_of takes seeds.now }
 {
@@ -126,7 +126,8 @@ fn taken_seed(takes: bool, seeds: &[u64]) -> u64
     }
 }
 
-/// Returns `numbers` without the first if the part has one (`takes`), or else all.
+/// Returns the numbers that are left after a word: without the first if its part `takes` a number, or else all of them. Of an
+/// empty list nothing is left.
 fn numbers_left(takes: bool, numbers: &[u32]) -> &[u32]
     ensures { result.now ≡ left_of takes numbers.now }
 {
@@ -137,7 +138,8 @@ fn numbers_left(takes: bool, numbers: &[u32]) -> &[u32]
     }
 }
 
-/// Returns `seeds` without the first if the part has one (`takes`), or else all.
+/// Returns the seeds that are left after a word: without the first if its part `takes` a seed, or else all of them. Of an empty
+/// list nothing is left.
 fn seeds_left(takes: bool, seeds: &[u64]) -> &[u64]
     ensures { result.now ≡ left_of takes seeds.now }
 {

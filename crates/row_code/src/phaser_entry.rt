@@ -122,7 +122,8 @@ impl Entry for DeclaredPhaser {
 
     const SIZE: usize = 12;
 
-    /// Reads phaser `n` of the list that begins at `start`. `_timed` is only of use for rows.
+    /// Reads a phaser from its 12 bytes. `start`, where the list begins in the file, and `n`, its number there, are only for a
+    /// fault's place. `_timed` is only of use for rows.
     fn read(
         _timed: bool,
         start: usize,

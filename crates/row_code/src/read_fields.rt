@@ -21,7 +21,7 @@ pub fn i32_at(bytes: &[u8], i: usize) -> i32
     i32::from_le_bytes([bytes[i], bytes[i + 1], bytes[i + 2], bytes[i + 3]])
 }
 
-/// Returns the row's number, 0 to 65535, in the field at `at`. Any other number is the fault of this field.
+/// Returns `value`, the number in the field at `at`, if it can be a row's: 0 to 65535. Any other is the fault of this field.
 pub fn target_at(at: usize, value: i32) -> Result<u16, ImageFault>
     ensures { result ≡ target_at at value }
 {
@@ -31,7 +31,7 @@ pub fn target_at(at: usize, value: i32) -> Result<u16, ImageFault>
     }
 }
 
-/// Returns the phase in the field at `at`. A negative number is the fault of this field.
+/// Returns `value`, the number in the field at `at`, if it can be a phase's. A negative one is the fault of this field.
 pub fn phase_at(at: usize, value: i32) -> Result<i32, ImageFault>
     ensures phase { result ≡ phase_at at value }
     ensures fits { IfOk result (λ phase. IsCount phase) }
@@ -43,7 +43,7 @@ pub fn phase_at(at: usize, value: i32) -> Result<i32, ImageFault>
     }
 }
 
-/// Returns 0 if the number in the unused field at `at` is 0. Any other number is the fault of this field.
+/// Returns `value`, the number in the unused field at `at`, if it is 0. Any other is the fault of this field.
 pub fn zero_at(at: usize, value: i32) -> Result<i32, ImageFault>
     ensures { result ≡ zero_at at value }
 {

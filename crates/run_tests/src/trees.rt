@@ -23,20 +23,27 @@ enum Plan {
 /// A call and its expected effect. The first number is that of the phaser that it names.
 #[derive(Clone, Copy)]
 enum Step {
+    /// `register` of so many parties, and its result.
     Registers(u8, u32, Registered),
+    /// What `register` of so many parties would return, by `registration`.
     Asks(u8, u32, Registered),
+    /// The arrival of a party that stays, and its result.
     Arrives(u8, Arrived),
+    /// The arrival of a party that leaves, and its result.
     Leaves(u8, Arrived),
-    /// The arrival is the last in the tree of phaser 0: the phase, and the root's parties.
+    /// The arrival is the last in the tree of phaser 0: the phase, and the root's parties. The party stays.
     ArrivesLast(u8, i32, u16),
+    /// The same, and the party leaves.
     LeavesLast(u8, i32, u16),
+    /// The end of a turned root's phase. If true, it terminates the root.
     Finishes(u8, bool),
     /// As many arrivals at a root as these parties end each phase from the first up to the other.
     EndsEach(u8, u16, i32, i32),
+    /// The termination of the phaser's tree, which has no result.
     Forces(u8),
-    /// The view, the parties and the arrived.
+    /// What getters return: the view, the parties and the arrived.
     Shows(u8, i32, u16, u16),
-    /// The parent, the root, the policy and the number of the phase.
+    /// What other getters return: the parent, the root, the policy and the number of the phase.
     Is(u8, Option<PhaserId>, PhaserId, Policy, i32),
 }
 
@@ -149,7 +156,8 @@ fn ends_each(forest: &mut Forest, root: u8, parties: u16, from: i32, to: i32) ->
     true
 }
 
-/// Makes the call of `step` at phaser `id`, the one that it names, and returns whether it has its expected effect.
+/// Makes the call of `step` at phaser `id`, which `step` names, and returns whether it has its expected effect. `Shows` and
+/// `Is` compare what getters return, and `Forces` expects nothing.
 fn comes_true_at(forest: &mut Forest, id: PhaserId, step: Step) -> bool
     requires { id.0 < length forest.old }
 {

@@ -22,7 +22,7 @@ const AT_COLON: &str = "a label has a colon only in its own line: `.thread ann m
 const AT_EQUALS: &str = "no `=`: as in `.phaser p 2` and `ldi r0 5`";
 
 /// Returns whether one of these words contains this byte.
-fn have(words: &[&[u8]], byte: u8) -> bool {
+fn any_contains(words: &[&[u8]], byte: u8) -> bool {
     words.iter().any(|word| word.contains(&byte))
 }
 
@@ -112,7 +112,7 @@ fn helps_at_java_line(words: &[&[u8]], word: &[u8]) -> Option<&'static str> {
     let helps = in_place_of_made(words).or(in_place_of(word));
     if helps.is_some() || assigned.is_none() {
         helps
-    } else if have(words, b'+') {
+    } else if any_contains(words, b'+') {
         Some("`ldi r1 1` puts 1 into r1, and then `add r0 r0 r1` adds it to r0")
     } else {
         Some("the instruction is first, then the register of its result, as in `ldi r0 5`")
@@ -162,17 +162,17 @@ fn has_row(text: &[u8]) -> bool {
 
 /// Returns advice if one of these words has a `=`, and None if none has.
 fn helps_at_equals(words: &[&[u8]]) -> Option<&'static str> {
-    have(words, b'=').then_some(AT_EQUALS)
+    any_contains(words, b'=').then_some(AT_EQUALS)
 }
 
 /// Returns advice for too few or too many operands of the row or directive `first`. None if its form says enough.
 fn helps_at_count(first: &[u8], words: &[&[u8]]) -> Option<&'static str> {
     helps! {
-        first == b".thread".as_slice() && have(words, b':') => AT_COLON,
+        first == b".thread".as_slice() && any_contains(words, b':') => AT_COLON,
         first == b".thread".as_slice() => AT_THREAD,
         first == b".cell".as_slice() => "a cell has only a name, and begins at 0: `.cell total`",
         words.iter().any(|word| begins_other_comment(*word)) => AT_COMMENT,
-        have(words, b',') => AT_COMMA,
+        any_contains(words, b',') => AT_COMMA,
         words.iter().filter(|word| shape_of(**word).is_some()).count() > 1 =>
             "one instruction a line: put the second on a line of its own",
         else helps_at_equals(words)
@@ -218,7 +218,7 @@ fn helps_at_range(first: &[u8], words: &[&[u8]], word: &[u8]) -> &'static str {
 fn helps_at_register(text: &[u8], words: &[&[u8]], word: &[u8]) -> Option<&'static str> {
     helps! {
         declares(text, b".cell", word) => "`lds r0 c` reads the cell c into r0, and `sts r0 c` writes r0 to it",
-        have(words, b'=') => AT_EQUALS,
+        any_contains(words, b'=') => AT_EQUALS,
         is_number(word) => "put the number into a register first, as in `ldi r1 1`",
         is_like_register(word) => "the registers are r0 to r7: a small r and one digit",
         else None
@@ -259,7 +259,7 @@ fn helps_at_kind(
         AsmFaultKind::BadNumber if matches!(word, [b'0'..=b'9' | b'#' | b'+', ..]) => Some(
             "decimal digits alone, with a `-` before them if the number is below 0: `ldi r0 -16`",
         ),
-        AsmFaultKind::BadNumber if first.starts_with(b".") && !have(words, b'=') => Some(
+        AsmFaultKind::BadNumber if first.starts_with(b".") && !any_contains(words, b'=') => Some(
             "a number is written in digits, as in `.phaser p 2`",
         ),
         AsmFaultKind::BadOption if has_comment_sign(word) => Some(AT_COMMENT),

@@ -161,7 +161,7 @@ fn add_thread(text: &mut Vec<u8>, machine: &Machine, thread: u8) -> Result<(), A
     add_thread_tail(text, machine, thread)
 }
 
-/// Appends the lines of all threads.
+/// Appends the line of each thread, by number from 0, as `add_thread` does.
 fn add_threads(text: &mut Vec<u8>, machine: &Machine) -> Result<(), AllocError>
     ensures text { OnOk result (text.new.items
         ≡ text.old.items ++ numbered_texts thread_text 0 machine.now.scene.threads) }
@@ -197,7 +197,7 @@ fn add_phaser(text: &mut Vec<u8>, forest: &Forest, id: PhaserId) -> Result<(), A
     add_parties(text, forest, id)
 }
 
-/// Appends the lines of all phasers. The first call only tells the proof that there are at most 64.
+/// Appends the line of each phaser, by number from 0. The first call only tells the proof that there are at most 64.
 fn add_phasers(text: &mut Vec<u8>, forest: &Forest) -> Result<(), AllocError>
     ensures { OnOk result (text.new.items
         ≡ text.old.items ++ numbered_texts phaser_text 0 (phasers_of forest.now)) }
@@ -209,7 +209,7 @@ fn add_phasers(text: &mut Vec<u8>, forest: &Forest) -> Result<(), AllocError>
     Ok(())
 }
 
-/// Appends the line of a barrier: its number, how many wait, and 1 if it is broken, or else 0.
+/// Appends the line of a barrier, as `b0 1 0`: its number, how many wait, and 1 if it is broken, or else 0.
 fn add_barrier(text: &mut Vec<u8>, number: u8, barrier: &Barrier) -> Result<(), AllocError>
     ensures { OnOk result (text.new.items ≡ text.old.items ++ barrier_text number barrier.now) }
 {
@@ -222,7 +222,7 @@ fn add_barrier(text: &mut Vec<u8>, number: u8, barrier: &Barrier) -> Result<(), 
     })
 }
 
-/// Appends the lines of all barriers.
+/// Appends the line of each barrier, by number from 0.
 fn add_barriers(text: &mut Vec<u8>, machine: &Machine) -> Result<(), AllocError>
     ensures { OnOk result (text.new.items
         ≡ text.old.items ++ numbered_texts barrier_text 0 machine.now.scene.barriers) }

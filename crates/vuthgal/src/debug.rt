@@ -94,7 +94,8 @@ fn session_at(
     Ok(done)
 }
 
-/// Writes `not a trace` and the number of the first line that no trace has there. Returns `Unlike`, which is status 1.
+/// Writes `not a trace LINE` to standard output, and shows a person that line on standard error. It is the first that no trace has
+/// there. Returns `Unlike`, which is exit status 1, or what was reported if standard output failed.
 fn end_without_trace<S>(
     report: &Report<'_>,
     name: &str,

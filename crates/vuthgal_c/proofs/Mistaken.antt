@@ -1,12 +1,12 @@
 -- What is told of a mistake, by the status of the call.
 use Rattle.std.proofs.Common.{◌≡◌, ◌≢◌, ◌∙◌, inl, inr, ℕ, false, List, [], Some, Result, Ok, Err, IfErr, sym, arith, OnOk, Option}
 use Rattle.commands.specs.{Unplanned.unplanned_status, declared.unplanned.Unplanned.Unplanned}
-use Rattle.vuthgal_c.specs.{Beyond.SettlesSeeds, Shows.HandsOver}
+use Rattle.vuthgal_c.specs.{Beyond.SettlesUnplanned, Shows.HandsOver}
 
 -- nothing is written but with status 3
 pub silent : (answer : Result (Unit {0}) Unplanned) (status : ℕ) (before after : Option (List ℕ)) (Silent : Type 0)
     → OnOk answer Silent → IfErr answer (λ reason. unplanned_status reason ≢ 3 → Silent)
-    → SettlesSeeds answer status false before after → status ≢ 3 → Silent
+    → SettlesUnplanned answer status false before after → status ≢ 3 → Silent
 silent (Ok done) status before after Silent right wrong settles other = right
 silent (Err reason) status before after Silent right wrong settles other = wrong (λ three. other (settles.0 ∙ three))
 
@@ -17,7 +17,7 @@ nothing_came now before same empty = grind arith
 -- with status 3 there is a reason
 pub has_reason : (answer : Result (Unit {0}) Unplanned) (status : ℕ) (before after : Option (List ℕ)) (Reported : Unplanned → Type 0)
     → IfErr answer (λ reason. unplanned_status reason ≡ 3 → Reported reason)
-    → SettlesSeeds answer status false before after → status ≡ 3 → (reason : Unplanned) × Reported reason
+    → SettlesUnplanned answer status false before after → status ≡ 3 → (reason : Unplanned) × Reported reason
 has_reason (Ok done) status before after Reported wrong settles three = absurd (omega (arith, settles.0, three))
 has_reason (Err reason) status before after Reported wrong settles three = (reason, wrong (sym settles.0 ∙ three))
 

@@ -108,17 +108,17 @@ pub record ReportsSeeds (file steps : List ℕ) (seeds : Seeds) (answer : Result
   pub write : answer ≡ Err (why.Fault fault.Write) → IsTrue output_failed
   pub spawn : answer ≢ Err (why.Fault fault.Spawn)
 
--- the status of the seeds' result, and its line
-abbrev pub SettlesSeeds : Result (Unit {0}) Unplanned → (status : ℕ) (line_failed : Bool) (line_before line_after : Option (List ℕ)) → Type 0
-SettlesSeeds (Ok done) status line_failed line_before line_after = (status ≡ 0) × (line_after ≡ line_before)
-SettlesSeeds (Err reason) status line_failed line_before line_after =
+-- the status of an answer that can't be cut off, and its fault's line
+abbrev pub SettlesUnplanned : Result (Unit {0}) Unplanned → (status : ℕ) (line_failed : Bool) (line_before line_after : Option (List ℕ)) → Type 0
+SettlesUnplanned (Ok done) status line_failed line_before line_after = (status ≡ 0) × (line_after ≡ line_before)
+SettlesUnplanned (Err reason) status line_failed line_before line_after =
     (status ≡ unplanned_status reason) × (IsTrue line_failed ⊎ Appends line_before line_after (unplanned_line reason))
 
 abbrev pub Reports : (file steps : List ℕ) → (Seeds → Type 0) → (status : ℕ) (report line : List ℕ) → Type 0
 Reports file steps AreThese status report line =
     (seeds : Seeds) × ((answer : Result (Unit {0}) Unplanned) × (AreThese seeds
     × ReportsSeeds file steps seeds answer (Some []) (Some report) false
-    × SettlesSeeds answer status false (Some []) (Some line)
+    × SettlesUnplanned answer status false (Some []) (Some line)
     × (IsTooMuch file steps → answer ≡ Err (why.Fault fault.Read))))
 
 -- why a program and a schedule have no drawing: the file holds no program; or they have none

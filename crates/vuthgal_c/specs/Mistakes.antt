@@ -10,7 +10,7 @@ use Rattle.schedule_reader.specs.declared.fault.ScheduleFault.TheVariants as sch
 use Rattle.workbench.specs.{ProgramFile.IsNoProgramFor, ProgramFile.IsNoTextFor, RunLine.program_part, RunLine.schedule_part}
 use Rattle.workbench.specs.declared.{fault.Fault.Fault, program.Program.Program}
 use Rattle.workbench.specs.declared.fault.Fault.TheVariants as fault
-use Rattle.vuthgal_c.specs.{Beyond.IsProgramIn, Beyond.IsTooMuch, Beyond.SettlesSeeds, declared.mistake.Kind.Kind}
+use Rattle.vuthgal_c.specs.{Beyond.IsProgramIn, Beyond.IsTooMuch, Beyond.SettlesUnplanned, declared.mistake.Kind.Kind}
 use Rattle.vuthgal_c.specs.{Places.IsByteAt, Places.no_place, Places.word_place, declared.place.PlaceLook.PlaceLook}
 use Rattle.vuthgal_c.specs.declared.mistake.Kind.TheVariants as kind
 
@@ -126,4 +126,4 @@ Mistakes k file input status hint line =
     × IfErr answer (λ reason. unplanned_status reason ≡ 3 → (place : PlaceLook) × Refuses k file input reason place)
     × (IsTooMuch file input → answer ≡ Err (why.Fault fault.Read))
     × (status ≢ 3 → hint ≡ [])
-    × SettlesSeeds answer status false (Some []) (Some line))
+    × SettlesUnplanned answer status false (Some []) (Some line))

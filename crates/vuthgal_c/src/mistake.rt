@@ -10,7 +10,7 @@ ghost use Rattle.vuthgal_c.specs.Mistakes.{HasNames, IsNotLoaded, IsPlaced, IsPl
 
 use crate::files::is_within;
 use crate::place::PlaceLook;
-use crate::planning::settled_done;
+use crate::planning::settled_unplanned;
 use crate::reply::Reply;
 use assembler::word_place::line_at;
 use byte_ports::{MemorySink, Sink};
@@ -331,7 +331,7 @@ pub extern "C" fn vuthgal_mistake(
         &mut reply.shown,
         place,
     );
-    let status = settled_done(answer, &mut reply.told);
+    let status = settled_unplanned(answer, &mut reply.told);
     let status = reply.hand(status, output, output_length, line, line_length);
     if status != 3 {
         *place = PlaceLook::none();

@@ -1,7 +1,7 @@
 //! The schedules of plans, and what the orders of seeds lead to.
 ghost use Rattle.std.specs.Prelude.{◌≡◌, ◌≢◌, ◌==◌, ◌≤◌, ◌++◌, [], Err, IfErr, IfOk, IsTrue, OnErr, OnOk, Option, Some, codes, false, min, not};
 ghost use Rattle.std.specs.{Fmt.decimal, Io.KnownBytes.Appends};
-ghost use Rattle.vuthgal_c.specs.Beyond.{AreAsked, HasPlannedBy, IsTooMuch, Plans, PlansSteps, Reports, ReportsSeeds, SettlesPlan, SettlesSeeds, stopped_line};
+ghost use Rattle.vuthgal_c.specs.Beyond.{AreAsked, HasPlannedBy, IsTooMuch, Plans, PlansSteps, Reports, ReportsSeeds, SettlesPlan, SettlesUnplanned, stopped_line};
 ghost use Rattle.vuthgal_c.specs.Shows.{Shows};
 ghost use Rattle.commands.specs.{Planning.HasNoSchedule, Seeds.HasReportedSeeds, Seeds.HaveNoReport};
 ghost use Rattle.commands.specs.{Unplanned.unplanned_status, declared.seeds.Unlike.Unlike};
@@ -182,9 +182,10 @@ fn reported<K: Sink>(
     }
 }
 
-/// Returns the exit status: 0, or a fault's. Writes a fault's line to `line`, if that works.
-pub fn settled_done<E: Sink>(answer: Result<(), Unplanned>, line: &mut E) -> u8
-    ensures { SettlesSeeds answer result (E.has_failed line.new) (E.written line.old) (E.written line.new) }
+/// Returns the exit status of an answer that can't be cut off: 0, or its fault's. Writes the fault's line to `line`. The status is
+/// the same if that fails.
+pub fn settled_unplanned<E: Sink>(answer: Result<(), Unplanned>, line: &mut E) -> u8
+    ensures { SettlesUnplanned answer result (E.has_failed line.new) (E.written line.old) (E.written line.new) }
 {
     match answer {
         Ok(()) => 0,
@@ -217,6 +218,6 @@ pub extern "C" fn vuthgal_seeds(
     let seeds = asked(first, count, limit, names);
     let mut reply = Reply::new(alloc, output.len(), line.len());
     let answer = reported(alloc, program, plan, &seeds, &mut reply.shown);
-    let status = settled_done(answer, &mut reply.told);
+    let status = settled_unplanned(answer, &mut reply.told);
     reply.hand(status, output, output_length, line, line_length)
 }

@@ -61,7 +61,7 @@ impl Stage {
         alone(self.threads[t].take_interruption())
     }
 
-    /// Returns whether the thread's wait at the barrier goes on, or has ended with a trip or a breakage. It has such a wait.
+    /// Returns whether the thread's wait at the barrier goes on, or has ended with a trip or a breakage. It must have such a wait.
     pub(super) fn wait_state(&self, barrier: u16, t: usize) -> WaitState
         requires there { barrier < length self.now.barriers }
         requires waits { wait_at (barrier_at (scene_of self.now) barrier).waits t ≢ None }

@@ -3,7 +3,7 @@ use Rattle.std.proofs.lemmas.Result.{IfOk-weaker}
 use Rattle.loader.specs.Program.{row_at}
 use Rattle.machine_scene.specs.Scene.{thread_at}
 use Rattle.thread_machine.specs.World.{world_of}
-use Rattle.pictures.specs.Picture.{awaited_text, behind_text, hope_text, thread_caption}
+use Rattle.pictures.specs.Picture.{awaited_text, behind_text, outlook_text, thread_caption}
 use Rattle.pictures.specs.Sheet.{kept_behind}
 use Rattle.pictures.proofs.closing.waiting_line.Goals as goal
 
@@ -30,14 +30,14 @@ returns c =
     let behind : c.push_awaited.new.back.items ≡ c.new-back.result.items ++ behind_text world.scene c.args.thread row =
     c.in_ok-push_awaited.ensures.back
     ∙ ap (λ r. c.new-back.result.items ++ behind_text world.scene c.args.thread r) c.row_of-row.ensures in
-    let hope : c.push_hope.new.text.items ≡ c.push_awaited.new.back.items ++ hope_text world c.args.thread = search rules in
+    let hope : c.push_outlook.new.text.items ≡ c.push_awaited.new.back.items ++ outlook_text world c.args.thread = search rules in
     let front = c.as_slice.ensures.value ∙ three caption (codes " waits at ") (awaited_text sheet symbols world.scene c.args.thread row) _ _ _ _
     c.new-front.ensures.items named c.in_ok-extend_from_slice.ensures.items awaited in
-    let back = c.as_slice-2.ensures.value ∙ two (behind_text world.scene c.args.thread row) (hope_text world c.args.thread) _ _ _
+    let back = c.as_slice-2.ensures.value ∙ two (behind_text world.scene c.args.thread row) (outlook_text world c.args.thread) _ _ _
     c.new-back.ensures.items behind hope in
     IfOk-weaker c.kept_behind.result (λ line. line.items ≡ kept_behind c.from-2.result c.as_slice.result.now c.as_slice-2.result.now)
     (λ line. line.items ≡ kept_behind sheet.width
     (caption ++ (codes " waits at " ++ awaited_text sheet symbols world.scene c.args.thread row))
-    (behind_text world.scene c.args.thread row ++ hope_text world c.args.thread))
+    (behind_text world.scene c.args.thread row ++ outlook_text world c.args.thread))
     (λ line is. is ∙ ap (λ room. kept_behind room c.as_slice.result.now c.as_slice-2.result.now) c.from-2.ensures
     ∙ ap₂ (kept_behind sheet.width) front back) c.kept_behind.ensures

@@ -51,15 +51,15 @@ invariant_of-self-2 c =
     let all : c.self.inside.runs.items ≡ front ++ last ∷ [] = search rules in
     let counted = subst (All IsCounted) all c.self.invariant.0 in
     let old = all_last IsCounted front last counted in
-    let own : Run = run_of c.args.choice c.push_own-2.result in
-    let items = c.push_own-2.ensures.runs ∙ ap (λ (runs : List Run). runs ++ own ∷ []) c.push_reserved-2.ensures.items in
+    let own : Run = run_of c.args.choice c.push_new_run-2.result in
+    let items = c.push_new_run-2.ensures.runs ∙ ap (λ (runs : List Run). runs ++ own ∷ []) c.push_reserved-2.ensures.items in
     let apart : last.choice ≡ c.args.choice → last.times ≡ 1000000000 = λ same. elim c.else-is_same.branch [
       | else-is_same-via-then-is_same+else-last-lt-MOST_TIMES w ↦ omega (arith, w.if-last-lt-MOST_TIMES.false, old.1)
       | else-is_same-via-else-is_same w ↦ absurd (cc (w.if-is_same.false, c.is_same.ensures.1 same))
     ] in (
       subst (All IsCounted) (sym items)
           (all_with IsCounted (front ++ last ∷ []) own counted
-          (omega (arith, c.push_own-2.ensures.some, c.requires), omega (arith, c.push_own-2.ensures.some))),
+          (omega (arith, c.push_new_run-2.ensures.some, c.requires), omega (arith, c.push_new_run-2.ensures.some))),
       subst AreJoined (sym items) (joined_next front last own apart (subst AreJoined all c.self.invariant.1)),
     )
 
@@ -68,12 +68,12 @@ returns-clause-runs c = λ thread are.
     let front = c.pop.new.self.items in
     let last = c.in-Some.last in
     let all : c.args.self.now ≡ front ++ last ∷ [] = search rules in
-    let own : Run = run_of c.args.choice c.push_own-2.result in
-    let items = c.push_own-2.ensures.runs ∙ ap (λ (runs : List Run). runs ++ own ∷ []) c.push_reserved-2.ensures.items in
+    let own : Run = run_of c.args.choice c.push_new_run-2.result in
+    let items = c.push_new_run-2.ensures.runs ∙ ap (λ (runs : List Run). runs ++ own ∷ []) c.push_reserved-2.ensures.items in
     subst (All IsRun) (sym items)
     (all_with IsRun (front ++ last ∷ []) own (subst (All IsRun) all are)
     (record {
       thread = thread;
-      some = omega (arith, c.push_own-2.ensures.some, c.requires);
-      few = omega (arith, c.push_own-2.ensures.some);
+      some = omega (arith, c.push_new_run-2.ensures.some, c.requires);
+      few = omega (arith, c.push_new_run-2.ensures.some);
     }))

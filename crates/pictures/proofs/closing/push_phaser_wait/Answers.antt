@@ -5,7 +5,7 @@ use Rattle.instruction_table.specs.declared.shape.OperandKind.TheVariants as kin
 use Rattle.machine_scene.specs.Scene.{scene_of, thread_at}
 use Rattle.pictures.specs.Picture.{arrived_above, arrived_at, has_ended, missing_for, place_name}
 use Rattle.pictures.proofs.Ends.{arrived_open, behind_open}
-use Rattle.pictures.proofs.closing.push_phaser.Goals as goal
+use Rattle.pictures.proofs.closing.push_phaser_wait.Goals as goal
 
 pub returns-clause-front : goal.returns-clause-front
 returns-clause-front c =

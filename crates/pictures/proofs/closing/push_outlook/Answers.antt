@@ -2,7 +2,7 @@ use Rattle.std.proofs.Common.{rules, ◌≡◌, ◌∙◌, ◌++◌, List, ℕ, 
 use Rattle.thread_machine.specs.World.{world_of}
 use Rattle.pictures.specs.Picture.{end_text}
 use Rattle.pictures.proofs.Ends.{hope_expires, hope_ready, pushed}
-use Rattle.pictures.proofs.closing.push_hope.Goals as goal
+use Rattle.pictures.proofs.closing.push_outlook.Goals as goal
 
 pub returns-in-Some : goal.returns-in-Some
 returns-in-Some c =
