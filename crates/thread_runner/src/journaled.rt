@@ -262,6 +262,7 @@ impl Journaled {
         ensures first { self.first ≡ first_world result.1.program result.1.limit }
         ensures choices { self ≡ recording_of self.first result.0.items }
         ensures record { IsRecordOf self.first result.0.items (world_of result.1) }
+        ensures machine { world_of result.1 ≡ recorded_world self }
     {
         (self.schedule, self.machine)
     }
