@@ -6,6 +6,7 @@ headline."""
 import functools
 import hashlib
 import re
+import sys
 
 from marks import TOP
 
@@ -194,22 +195,55 @@ def contracts_of(crate, left_out=()):
         here = {}
         for module, items in re.findall(r"(?m)^pub use (?:self::|crate::)?([\w:]+?)::(\{[^}]*\}|\w+);", text):
             here.setdefault(module.split("::")[0], set()).update(re.findall(r"\w+", items))
+        # an exported type may have functions in each of the modules
+        types = {name for names in here.values() for name in names if name[0].isupper()}
         for public, module in re.findall(r"(?m)^(pub )?mod (\w+);", text):
             below = folder / f"{module}.rt"
             if below.is_file() and module not in left_out:
-                visit(below, folder / module, is_public and bool(public), here.get(module, set()) | exported)
+                visit(below, folder / module, is_public and bool(public), here.get(module, set()) | exported | types)
 
     if (source / "lib.rt").is_file():
         visit(source / "lib.rt", source, True, set())
     return found, clauses
 
 
+def named_below(page):
+    """The functions of other crates that the head of a page of the headline names, by files, `crate/src/file.rt: `call`, `call``:
+    pairs of a name and of clauses, if only these of its contract belong to the page."""
+    head = re.sub(r"\n-- *", " ", re.match(r"(?:--.*\n)*", page.read_text()).group())
+    call = r"`\w+`(?: \(`\w+`(?:, `\w+`)*\))?"
+    for file, calls in re.findall(rf"(\w+/src/[\w/]+\.rt): ({call}(?:, {call})*)", head):
+        yield TOP / "crates" / file, [(words[0], words[1:]) for words in (re.findall(r"\w+", it) for it in re.findall(call, calls))]
+
+
+def contracts_below(page):
+    """What the contracts of these functions name, and how many lines their clauses have."""
+    found, clauses = set(), 0
+    for path, calls in named_below(page):
+        its, _, scope = said_in(path, True, set())
+        contract_of = {name.rpartition("::")[2]: contract for name, contract in its}
+        for call, chosen in calls:
+            if call not in contract_of:
+                sys.exit(f"{page.relative_to(TOP)} names {call}, which isn't in {path.relative_to(TOP)}")
+            head, *parts = re.split(r"(?m)^\s*(?=ensures|requires)", contract_of[call])
+            of_name = {part.split()[1]: part for part in parts}
+            if not set(chosen) <= set(of_name):
+                sys.exit(f"{page.relative_to(TOP)} names a clause that {call} of {path.relative_to(TOP)} hasn't")
+            contract = head + "".join(of_name[name] for name in chosen) if chosen else contract_of[call]
+            found |= named_in(contract, *scope)
+            clauses += len(clauses_of(contract))
+    return found, clauses
+
+
 def page_of(crate):
-    """The contracts of a crate: the headline's page is that of a program's machine; `shown` adds what commands show, what a session
-    does, and what texts are."""
-    if crate == "shown":
-        return contracts_of(TOP / "crates" / "headline")
-    return contracts_of(TOP / "crates" / crate, {"session", "shown", "texts"} if crate == "headline" else ())
+    """The contracts of a crate. The headline's page is that of a program's machine, and of what is below it in other crates; `shown`
+    adds what commands show, what a session does, and what texts are."""
+    headline = TOP / "crates" / "headline"
+    if crate not in ("headline", "shown"):
+        return contracts_of(TOP / "crates" / crate)
+    parts = [contracts_of(headline, {"shown"} if crate == "headline" else ()), contracts_below(headline / "specs" / "Headline.antt")]
+    parts += [contracts_below(headline / "specs" / "EndToEnd.antt")] if crate == "shown" else []
+    return set().union(*(names for names, _ in parts)), sum(clauses for _, clauses in parts)
 
 
 def closure(roots, definitions):

@@ -1,6 +1,5 @@
 -- What choices leave of the world, one after another and however the program's phasers are stored.
-use Rattle.std.proofs.Common.{◌≡◌, ◌∙◌, ℕ, ◌+◌, ◌<◌, Bool, true, false, List, [], ◌∷◌, drop, get_or, length, ap, refl, Option, Some, None, arith, is_some}
-use Rattle.std.proofs.lemmas.List.{drop_more}
+use Rattle.std.proofs.Common.{◌≡◌, ◌∙◌, ℕ, Bool, true, false, List, [], ◌∷◌, ap, refl, Option, Some, None, arith, is_some}
 use Rattle.row_code.specs.declared.image.Image.{Image}
 use Rattle.tier_tree.specs.Stored.{Stored}
 use Rattle.loader.specs.Program.{without_words}
@@ -56,8 +55,3 @@ left_next now after choice rest more accepted is led is_accepted = grind arith
 pub left_last : (now after : World) (choice : Choice) (rest more : List Choice) (accepted : Bool) → rest ≡ choice ∷ more
     → Leaves now choice accepted after → accepted ≡ false → after ≡ (execution now rest).world
 left_last now after choice rest more accepted is led is_refused = grind arith
-
--- from one choice on
-pub choices-drop : (choices : List Choice) (i : ℕ) (d : Choice) → i < length choices
-    → drop i choices ≡ get_or choices i d ∷ drop (i + 1) choices
-choices-drop choices i d there = drop_more choices i d there

@@ -2,9 +2,9 @@
 use Rattle.std.proofs.Common.{◌≡◌, ◌∙◌, ◌≤◌, ◌⊎◌, ℕ, Bool, true, false, List, [], ◌∷◌, ◌++◌, length, Some, None, inl, inr, refl, ap, sym, append-nil, arith, if◌then◌else◌, Option, Result, Ok, Err, IsTrue, length-append}
 use Rattle.std.proofs.lemmas.List.Splits.{join_with_byte-slice_split}
 use Rattle.std.specs.{Io.KnownBytes.Consumes, List.slice_split, List.join_with_byte}
-use Rattle.line_reader.specs.{Words.is_line_end, FaultNumber.asm_number, declared.asm_fault.AsmFault.AsmFault}
+use Rattle.line_reader.specs.{Words.is_line_end, FaultNumber.asm_number}
 use Rattle.row_code.specs.{FaultNumber.image_number, declared.image.Image.Image}
-use Rattle.assembler.specs.{declared.placed.PlacedFault.PlacedFault, Meaning.StandsFor}
+use Rattle.assembler.specs.{Meaning.StandsFor}
 use Rattle.assembler.proofs.ReadLines.{stands_for-assembled}
 use Rattle.loader.specs.FaultNumber.{load_number}
 use Rattle.schedule_reader.specs.{FaultNumber.schedule_number, declared.fault.ScheduleFault.ScheduleFault, declared.run.Run.Run}
@@ -33,24 +33,14 @@ status_high (fault.Asm f) = refusal_high (asm_number f.fault.kind)
 status_high (fault.Image f) = refusal_high (image_number f)
 status_high (fault.Load f) = refusal_high (load_number f)
 status_high (fault.Schedule f) = refusal_high (schedule_number f)
-status_high (fault.TooLong kind) = omega arith
-status_high fault.LongTrace = omega arith
-status_high fault.Memory = omega arith
-status_high fault.Spawn = omega arith
-status_high fault.Read = omega arith
-status_high fault.Write = omega arith
+status_high _ = omega arith
 
 status_low : (f : Fault) → status_of f ≤ 5
 status_low (fault.Asm f) = omega (arith, refusal_low (asm_number f.fault.kind))
 status_low (fault.Image f) = omega (arith, refusal_low (image_number f))
 status_low (fault.Load f) = omega (arith, refusal_low (load_number f))
 status_low (fault.Schedule f) = omega (arith, refusal_low (schedule_number f))
-status_low (fault.TooLong kind) = omega arith
-status_low fault.LongTrace = omega arith
-status_low fault.Memory = omega arith
-status_low fault.Spawn = omega arith
-status_low fault.Read = omega arith
-status_low fault.Write = omega arith
+status_low _ = omega arith
 
 -- a schedule with a fault isn't one without
 faulty_whole : (schedule bytes : List ℕ) (rest : Option (List ℕ)) (runs all : List Run) (why : ScheduleFault)
@@ -68,15 +58,7 @@ no_text : (f : Fault) (text : List ℕ) (before after : Option (List ℕ)) → I
     → HasShownText text before after → ⊥
 no_text (fault.Asm f) text before after none is (image, (shown, ((stands, accepted), rows, appends))) =
     absurd (cc (none is, stands_for-assembled (program_part text) image stands))
-no_text (fault.Image f) text before after none is shows = absurd none
-no_text (fault.Load f) text before after none is shows = absurd none
-no_text (fault.Schedule f) text before after none is shows = absurd none
-no_text (fault.TooLong kind) text before after none is shows = absurd none
-no_text fault.LongTrace text before after none is shows = absurd none
-no_text fault.Memory text before after none is shows = absurd none
-no_text fault.Spawn text before after none is shows = absurd none
-no_text fault.Read text before after none is shows = absurd none
-no_text fault.Write text before after none is shows = absurd none
+no_text _ text before after none is shows = absurd none
 
 no_run : (text : List ℕ) (image : Image) (why : RunFault) (rest output_before output_after : Option (List ℕ)) (failed : Bool)
     (before after : Option (List ℕ)) → StandsFor (program_part text) image
@@ -88,9 +70,7 @@ no_run text image (run_fault.Schedule f) rest a b failed before after stands
     (world, (begins, (sound, (bytes, (runs, (other, consumed, early, has, lines)))))) is
     (own, (shown, (accepted, (all, (whole, traced)), appends))) =
     faulty_whole (schedule_part text) bytes rest runs all f consumed has whole
-no_run text image run_fault.Memory rest a b failed before after stands stops is shows = absurd (omega (arith, is))
-no_run text image run_fault.Read rest a b failed before after stands stops is shows = absurd (omega (arith, is))
-no_run text image run_fault.Write rest a b failed before after stands stops is shows = absurd (omega (arith, is))
+no_run text image _ rest a b failed before after stands stops is shows = absurd (omega (arith, is))
 
 -- a schedule is no longer than its text
 rest-shorter : (line : List ℕ) (lines : List (List ℕ)) → length (join_with_byte 10 lines) ≤ length (join_with_byte 10 (line ∷ lines))
@@ -127,15 +107,7 @@ unwritten text image run_fault.Write rest before after failed (world, (begins, h
 
 no_port : (f : Fault) (text : List ℕ) → IsNoTextFor f text → status_of f ≡ 5 → ⊥
 no_port (fault.Asm f) text none is = absurd (omega (arith, refusal_low (asm_number f.fault.kind), is))
-no_port (fault.Image f) text none is = absurd none
-no_port (fault.Load f) text none is = absurd none
-no_port (fault.Schedule f) text none is = absurd none
-no_port (fault.TooLong kind) text none is = absurd none
-no_port fault.LongTrace text none is = absurd none
-no_port fault.Memory text none is = absurd none
-no_port fault.Spawn text none is = absurd none
-no_port fault.Read text none is = absurd none
-no_port fault.Write text none is = absurd none
+no_port _ text none is = absurd none
 
 -- an input's text was played and came to this, and the command to this status
 abbrev pub Settles : (status : ℕ) (input_before input_after : Option (List ℕ)) (input_failed : Bool)

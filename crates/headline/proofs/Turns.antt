@@ -33,7 +33,7 @@ use Rattle.machine_scene.specs.Outcomes.{outcome_in_group, outcome_in, outcome_o
 use Rattle.machine_scene.specs.Sound.{IsSound, awaits, is_wait_row}
 use Rattle.machine_scene.proofs.{Plain.either, Plain.StandsAt, BarrierRows.seat, CallRows.can_turn_on_top, Facts.top_named}
 use Rattle.machine_scene.proofs.Outcomes.{stands_at}
-use Rattle.headline.specs.Pasts.{BarrierCall, Enter, EndAction, Leave, Interrupt, Expire, Reset, IsInAction, MakesBarrierCall, MakesNone}
+use Rattle.headline.specs.Pasts.{BarrierCall, Enter, EndAction, Leave, Interrupt, Expire, IsInAction, MakesBarrierCall, MakesNone}
 use Rattle.headline.specs.PhaseEnds.{answer_of_ret, row_in}
 use Rattle.headline.proofs.BarrierCalls.{GoesTo, nowhere, goes_entered, goes_ended, goes_left, goes_interrupted, goes_expired, goes_reset}
 use Rattle.headline.proofs.TreeCalls.{AsksPolicy, IsQuiet, TreesGo, trees_stay, trees_registered, trees_forced, trees_counted, trees_advanced, trees_ended}
@@ -351,19 +351,10 @@ isnt wait none (inr is) = cc (none, is)
 only_ends : (expiry : Bool) (t b : ℕ) (thread : ThreadState) (past : PlainBarrier) → state_of t past ≡ None → (call : BarrierCall)
     → MakesBarrierCall None expiry t thread b past call → IsInAction b thread × ((code : ℤ) × (thread.status ≡ status.Throws code))
 only_ends false t b thread past none (EndAction false) made = made
-only_ends false t b thread past none (EndAction true) made = absurd made
-only_ends false t b thread past none (Enter u interrupted no_wait) made = absurd made
 only_ends false t b thread past none (Leave u) made = absurd (isnt (state_of t past) none made.1)
 only_ends false t b thread past none (Interrupt u) made = absurd (cc (none, made.1.1))
-only_ends false t b thread past none (Expire u) made = absurd made
-only_ends false t b thread past none Reset made = absurd made
 only_ends true t b thread past none (Expire u) made = absurd (cc (none, made.1))
-only_ends true t b thread past none (EndAction false) made = absurd made
-only_ends true t b thread past none (EndAction true) made = absurd made
-only_ends true t b thread past none (Enter u interrupted no_wait) made = absurd made
-only_ends true t b thread past none (Leave u) made = absurd made
-only_ends true t b thread past none (Interrupt u) made = absurd made
-only_ends true t b thread past none Reset made = absurd made
+only_ends _ t b thread past none _ made = absurd made
 
 in_popped : (top : Option Frame) (code : ℤ) (program : Program) (steps t : ℕ) (scene : Scene) (row : Row)
     → StandsAt program steps t scene (status.Throws code) row → top_of (thread_at scene t).stack ≡ top
@@ -435,9 +426,8 @@ in_phase_timeout _ t scene none = idles true t tt scene
 still_waits : (wait : Option WaitState) (into : Reg) (index : ℤ) (b t : ℕ) (scene : Scene)
     → is_some (outcome_of_release wait into index b t scene) ≡ false → is_some wait ≡ true → wait ≡ Some state.Waiting
 still_waits (Some state.Waiting) into index b t scene unready some = refl
-still_waits (Some state.Tripped) into index b t scene unready some = absurd (cc unready)
-still_waits (Some state.Broken) into index b t scene unready some = absurd (cc unready)
 still_waits None into index b t scene unready some = absurd (cc some)
+still_waits _ into index b t scene unready some = absurd (cc unready)
 
 in_barrier_timeout : (row : Row) (index : ℤ) (t : ℕ) (program : Program) (scene : Scene) → IsNamed (counts_of program scene) row
     → HasSeats t scene → ((b : ℕ) → has_wait t (barrier_at scene b) ≡ is_wait_row b row)
@@ -509,8 +499,7 @@ in_turn (status.AwaitsPhase phase) row program steps t scene stands =
 in_turn (status.AwaitsBarrier index) row program steps t scene stands =
     in_barrier_wait row index t program scene stands.named (λ b here. seat program steps t b scene stands.sound stands.there here)
     (calls_at_row false program steps t scene index row stands)
-in_turn status.Ended row program steps t scene stands = idles false t tt scene
-in_turn (status.Died code) row program steps t scene stands = idles false t tt scene
+in_turn _ row program steps t scene stands = idles false t tt scene
 
 in_timeout : (of : Status) (row : Row) (program : Program) (steps t : ℕ) (scene : Scene) → StandsAt program steps t scene of row
     → is_some (outcome_in of row t program scene) ≡ false → GoIf None true t scene (timeout_in of row t scene)

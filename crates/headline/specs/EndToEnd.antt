@@ -2,7 +2,11 @@
 -- the bytes that it reads to the bytes that it writes. The commands are the program without arguments, `run`, `debug`, and
 -- `live` without `--runs`. This holds whenever the command's result is Ok, and for `debug --at` whenever it is `AsAsked`, if no
 -- person at a terminal gives the commands. What a refused command leaves is said by each function of src/shown.rt (`outcome`).
--- The calls of a session are in src/session.rt, one by one, and src/texts.rt has those that read and write texts.
+-- The calls of a session, and those that read and write texts, are in other crates, each with its own contract.
+-- debugger/src/session.rt: `new`, `machine`, `step`, `back`, `set_break`, `clear_break`. debugger/src/session/go.rt: `go`.
+-- debugger/src/session/reply.rt: `command`. assembler/src/assembling.rt: `assemble` (`found`, `only`).
+-- line_reader/src/listing.rt: `disassemble`. trace_text/src/line.rt: `event_line`, `refusal_line`. trace_text/src/state.rt:
+-- `state_text`.
 --
 -- Each `use` line names the file that defines its names. The bytes of a text or a file are all that it has, at most 16,777,216:
 -- the program reads them first (`read_all`, workbench/src/input.rt). That the image is that of these bytes is promised by
@@ -25,8 +29,8 @@
 --
 -- The other commands have their promises elsewhere, each in the relation that its contract names:
 --   `asm`: the bytes of the image that the text stands for are written (Assembles, workbench/specs/Asm.antt).
---   `list`: the canonical text of the program (`list` in src/shown.rt), which represents its image and no other (`disassemble` in
---      src/texts.rt); with `--rows` its rows (ListsRows, commands/specs/Rows.antt).
+--   `list`: the canonical text of the program (`list` in src/shown.rt), which represents its image and no other (the law
+--      `a_canonical_text_is_read_back` there); with `--rows` its rows (ListsRows, commands/specs/Rows.antt).
 --   `compare`: the verdict on the whole trace, with the number of the line that decides (`compare` in src/shown.rt, by
 --      WritesVerdict, workbench/specs/Compare.antt), and `same` exactly if it is the trace of the choices that its lines name
 --      (HasFoundTheSame, below, and the law `the_same_is_that_trace_alone` in src/shown.rt); with `--show` also a line of the

@@ -23,17 +23,25 @@
 --      (BarriersHavePasts).
 -- 1 is what `play` leaves (src/machine.rt). 2 and 4 are laws (src/law.rt). 3 is what `step`, `take_back` and `step_and_back` do to
 -- a machine, and `steps_and_backs` to a debugging session (src/back.rt). Each `use` line names the file that defines its names: to
--- believe this page, read those, too. Three files are about what is below:
---   src/trees.rt: trees whose words lag. A step gives what its row gives (`step`), no word lags far (`no_word_lags_far`, and
---      the law `phases_are_few`), and each call at a tree does what it does without a lag (`plant`, `declare`, `register`,
---      `arrive`, `end_phase`, `force`).
---   src/record.rt: a live run of a loaded program (`load`, `run_live`), and the record that its lock protects (`begin`, `record`,
---      `schedule`, `take_step`, `take_expiry`, `into_machine`).
---   src/word.rt: the word that real threads share: how it begins (`new`), its calls (`make_call`, `make_call_within`, `look`,
---      `await_advance`, `arrive_and_await_advance`), its callers (`split`, `join`), and its end (`close`).
+-- believe this page, read those, too. What is below the machine is promised by calls of other crates, each in its own contract:
+--   Trees whose words lag. A step gives what its row gives (`step` in src/trees.rt), no word lags far (`no_word_lags_far` there, and
+--      the law `phases_are_few`), and each call at a tree does what it does without a lag, to the tree and to the counts of who is
+--      registered and who is to arrive. tier_tree/src/forest.rt: `new`, `register`, `arrive`, `finish_turn`, `force`.
+--      tier_tree/src/forest/declaration.rt: `declare`.
+--   A live run of a loaded program, and the record that its lock protects. Its machine begins in the image's first state (the law
+--      `programs_begin_as_their_images`). loader/src/loaded/loading.rt: `load`. thread_runner/src/runner.rt: `run_live`.
+--      thread_runner/src/journaled.rt: `new`, `each_record_is_a_replay`, `machine`, `schedule`, `take_step`, `take_expiry`,
+--      `into_parts`.
+--   The word that real threads share: how it begins, its callers, its end, and its calls. After each call its caller has seen a
+--      legal history (MakesCall): what it had seen, then calls of others, then its own call. Its own calls there are exactly those
+--      that it has made. The histories of different callers aren't compared, but after `join` the first has seen one that begins
+--      with what either had seen. After `close` the word is the last of one that begins with what the first caller had seen.
+--      shared_phaser/src/phaser.rt: `new`, `split`, `join`, `close`. shared_phaser/src/calls.rt: `look`, `register_within`,
+--      `arrive_within`, `force_within`. shared_phaser/src/waiting.rt: `register`, `arrive`, `arrive_and_deregister`, `force`,
+--      `await_advance`, `arrive_and_await_advance`.
 -- EndToEnd.antt, beside this file, says that the commands show this of what they read.
 --
--- The program calls none of these functions, only `run`, `live`, `list`, `compare` and the three of `debug` in src/shown.rt.
+-- Of this crate, the program calls only `run`, `run_choices`, `live`, `list`, `compare` and the three of `debug` in src/shown.rt.
 -- Its runs step with `Machine::step`, and its debugger with `Machine::step_into` and `Debugger::back`. The contracts of these
 -- three promise the same of each choice as `step` and `take_back` (thread_machine/src/machine.rt, debugger/src/session.rt). A
 -- session begins in a world whose phasers may be stored differently than those of `start`, which makes no difference
@@ -41,7 +49,7 @@
 -- refused: `sessions_give_the_rows` (src/shown.rt).
 --
 -- You trust Rattle's checker and its two compilers, LLVM, the C library and the system below them.
-use Rattle.std.specs.Prelude.{◌≡◌, ◌≤◌, ℕ, List, Option, None, ◌++◌}
+use Rattle.std.specs.Prelude.{◌≡◌, ◌≤◌, ℕ, List, Option, None}
 use Rattle.row_code.specs.{declared.image.Image.Image, Image.IsImage}
 use Rattle.loader.specs.{Declarations.declared_origin, Fault.first_fault, Program.without_words}
 use Rattle.tier_tree.specs.Forest.{phaser_at}
@@ -53,8 +61,6 @@ use Rattle.thread_machine.specs.World.{World, StoredWorld, IsFirstOf, first_of, 
 use Rattle.thread_machine.specs.Execution.{Execution, execution}
 use Rattle.thread_machine.specs.DirectCounts.{NoPhaseEndsEarlyFrom, NumbersStay, counts_through}
 use Rattle.trace_text.specs.State.{state_text}
-use Rattle.shared_phaser.specs.declared.history.{Call.Call, Answer.Answer, Entry.Entry, Known.Known}
-use Rattle.shared_phaser.specs.{History.IsLegal, Known.Owns, Known.making}
 use Rattle.headline.specs.Pasts.{RecordsOnePast}
 use Rattle.headline.specs.PhaseEnds.{AreCounted, EndsInTime, NumbersGoOn, RoutineEnds, TakesArrivals, TerminateAsSaid, row_of}
 
@@ -165,13 +171,3 @@ StoredAlike =
     let rows : Execution = execution (start image) choices in
     GivesTheRows image choices shown.world × (shown.events ≡ rows.events) × (shown.refusal ≡ rows.refusal)
     × (state_text shown.world ≡ state_text rows.world)
-
--- In a layer below: what a caller of the word that threads share knows after a call. What it has seen is then what it had
--- seen, then calls of others, then its own call. This is a legal history, in which its own calls are exactly those that it
--- has made. Here the histories of different callers aren't compared. After `join`, the first caller has seen a history that
--- begins with what either had seen. After `close`, the word is the last of a history that begins with what the first caller
--- had seen.
-abbrev pub MakesLegalCall : Known → Call → Answer → Known → Type 0
-MakesLegalCall before call answer after =
-    ((others : List Entry) × (after ≡ making before (before.seen ++ others) call answer))
-    × IsLegal after.opening after.seen × Owns after.seen after

@@ -1,7 +1,9 @@
 // What holds of every accepted program. Each law is the contract of a function that does nothing.
 ghost use Rattle.std.specs.Prelude.{◌≡◌, ◌≤◌, ℕ, List, None};
+ghost use Rattle.loader.specs.Program.{IsProgramOf, Program};
+ghost use Rattle.row_code.specs.declared.image.Image.{Image};
 ghost use Rattle.thread_machine.specs.{declared.choice.Choice.Choice, Execution.execution, Limit.under_limit, Limit.with_limit};
-ghost use Rattle.thread_machine.specs.World.{World};
+ghost use Rattle.thread_machine.specs.World.{IsFirstOf, World, first_world};
 ghost use Rattle.headline.specs.Headline.{
   ArrivalsAreTaken,
   BarriersHavePasts,
@@ -55,6 +57,13 @@ pub fn phases_are_few()
 /// A law: it makes no difference to the executions of a program how its phasers are stored at first.
 pub fn phasers_may_be_stored_otherwise()
     ensures { StoredAlike }
+{}
+
+/// A law: the machine of a loaded program begins in the first state of its image, however its phasers are stored at first.
+#[tactic(auto, using(thread_machine::proofs::Firsts::is_first))]
+pub fn programs_begin_as_their_images()
+    ensures { (image : Image) (program : Program) (limit : ℕ) → IsProgramOf image program
+        → IsFirstOf image limit (first_world program limit) }
 {}
 
 /// A law: a machine may have a lower limit of steps, as that of a live run. As long as no choice is refused, its

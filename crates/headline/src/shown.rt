@@ -3,7 +3,8 @@
 ghost use Rattle.std.specs.Prelude.{◌≡◌, ◌≢◌, ◌↔◌, ◌⊎◌, ◌<◌, ◌≤◌, ℕ, IsTrue, List, [], Ok, OnOk, Option, Some, None};
 ghost use Rattle.assembler.specs.Meaning.{StandsFor};
 ghost use Rattle.loader.specs.{Fault.first_fault, declared.load_fault.LoadFault.LoadFault};
-ghost use Rattle.row_code.specs.declared.image.Image.{Image};
+ghost use Rattle.line_reader.specs.Listing.{canonical};
+ghost use Rattle.row_code.specs.{Image.IsImage, declared.image.Image.Image};
 ghost use Rattle.thread_machine.specs.{World.IsFirstOf, World.World, declared.choice.Choice.Choice};
 ghost use Rattle.trace_compare.specs.Compare.{choices_of_trace, verdict_of};
 ghost use Rattle.trace_compare.specs.declared.comparison.Verdict.TheVariants as verdict;
@@ -16,6 +17,7 @@ ghost use Rattle.workbench.specs.{Input.GivesAll, Input.GivesTooMuch, Live.IsRec
 ghost use Rattle.workbench.specs.RunLine.{program_part, schedule_part};
 ghost use Rattle.workbench.specs.declared.done.Done.TheVariants as done;
 
+use assembler::meaning::{canonical_means_image, one_image};
 use byte_ports::{Sink, Source};
 use row_code::Image;
 use schedule_reader::Run;
@@ -202,3 +204,18 @@ pub fn a_live_run_chooses()
     ensures { (limit : ℕ) (image : Image) (choices : List Choice)
         → 0 < limit → Accepted image → IsRecorded image limit choices → choices ≢ [] }
 {}
+
+/// A law: the image of a text or a file is within the limits of images. It is accepted if the loader finds no fault.
+pub fn what_is_read_is_within_limits()
+    ensures text { (text : List ℕ) (image : Image) → StandsFor text image → IsImage image }
+    ensures file { (file : List ℕ) (image : Image) → IsProgramFile file image → IsImage image }
+{}
+
+/// A law, by two that it calls: the canonical text of an image within the limits is that image's. No text has two.
+pub fn a_canonical_text_is_read_back()
+    ensures represents { (image : Image) → IsImage image → StandsFor (canonical image) image }
+    ensures one { (text : List ℕ) (a b : Image) → StandsFor text a → StandsFor text b → a ≡ b }
+{
+    canonical_means_image();
+    one_image();
+}

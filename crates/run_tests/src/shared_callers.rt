@@ -145,6 +145,20 @@ fn nobody_waits_without_need(rt: HostRuntime) -> Result<(), Fail> {
     Ok(())
 }
 
+/// Checks the calls that try until they have a reply: one party meets itself, a second one comes, one of both leaves, and the
+/// phaser is terminated in phase 2.
+#[test]
+fn calls_are_made_whatever_it_takes(rt: HostRuntime) -> Result<(), Fail> {
+    let (phaser, mut party) = SharedPhaser::new(rt.alloc(), 1, Default, Phase::prevailing(0))?;
+    assert!(rt; phaser.arrive_and_await_advance(&rt, &mut party) == Ok(1));
+    assert!(rt; phaser.register(&rt, &mut party, 1) == Counted(1));
+    assert!(rt; phaser.arrive_and_deregister(&rt, &mut party) == Counted(1));
+    assert!(rt; phaser.arrive(&rt, &mut party) == Counted(1));
+    assert!(rt; phaser.force(&rt, &mut party) == Dead(-2147483646));
+    assert!(rt; phaser.close(party).parties() == 1);
+    Ok(())
+}
+
 /// Checks that the first caller sees what a second one has registered.
 #[test]
 fn two_callers_of_one_phaser(rt: HostRuntime) -> Result<(), Fail> {
