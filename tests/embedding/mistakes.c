@@ -1,39 +1,11 @@
 /* Where inputs are refused, and what helps: examples, each in every room from none on and with each request for memory refused. The last
    line is `as the header says`, or it exits with the number of the line that isn't so. */
-#include <stdio.h>
-#include <stdlib.h>
 #include <string.h>
 #include <vuthgal.h>
+#include "requests.h"
 
-#define CHECK(is) do { if (!(is)) { printf("line %d: %s\n", __LINE__, #is); exit(1); } } while (0)
 #define PAIR ".thread ann main\n.thread bob main\nmain: halt\n"
 #define IN(text) (const uint8_t *)(text), strlen(text)
-
-/* how many more requests are granted; less than 0: all */
-static long left = -1, held = 0;
-
-void *__real_malloc(size_t);
-void *__real_realloc(void *, size_t);
-void __real_free(void *);
-
-static int is_refused(void) { return left >= 0 && left-- == 0; }
-
-void *__wrap_malloc(size_t n) {
-  if (is_refused()) return NULL;
-  held++;
-  return __real_malloc(n);
-}
-
-void *__wrap_realloc(void *at, size_t n) {
-  if (is_refused()) return NULL;
-  if (!at) held++;
-  return __real_realloc(at, n);
-}
-
-void __wrap_free(void *at) {
-  if (at) held--;
-  __real_free(at);
-}
 
 static const struct example {
   const char *program;

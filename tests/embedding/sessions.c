@@ -1,41 +1,11 @@
 /* Sessions where something is in their way: each request for memory refused in turn, no room, no session, a copy that was moved, and a
    thousand at once. The last line is `as the header says`, or it exits with the number of the line that isn't so. */
 #include <pthread.h>
-#include <stdio.h>
-#include <stdlib.h>
 #include <string.h>
 #include <vuthgal.h>
-
-#define CHECK(is) do { if (!(is)) { printf("line %d: %s\n", __LINE__, #is); exit(1); } } while (0)
+#include "requests.h"
 
 static const char *PROGRAM = ".phaser p 2\n.thread a main\n.thread b main\nmain: paaa r0 p\nout r0\njmp main\n";
-
-/* how many more requests are granted; less than 0: all */
-static __thread long left = -1;
-static __thread long held = 0;
-
-void *__real_malloc(size_t);
-void *__real_realloc(void *, size_t);
-void __real_free(void *);
-
-static int is_refused(void) { return left >= 0 && left-- == 0; }
-
-void *__wrap_malloc(size_t n) {
-  if (is_refused()) return NULL;
-  held++;
-  return __real_malloc(n);
-}
-
-void *__wrap_realloc(void *at, size_t n) {
-  if (is_refused()) return NULL;
-  if (!at) held++;
-  return __real_realloc(at, n);
-}
-
-void __wrap_free(void *at) {
-  if (at) held--;
-  __real_free(at);
-}
 
 static uint8_t open_it(vuthgal_session *s, const char *program) {
   uint8_t line[VUTHGAL_LINE];
