@@ -6,7 +6,7 @@ mod NoPicture
 mod Pages
 pub mod PlanParts
 pub mod ListedRows
-pub mod Reported
+pub mod WrittenChoices
 mod Written
 pub mod Counting
 pub mod Seeded

@@ -138,8 +138,9 @@ pub fn live<R: Threads + Wait + Sync, G: Gate + Sync, K: Sink>(
     workbench::live::live(threads, alloc, limit, gate, image, output)
 }
 
-/// Plays a source's text with its schedule, and writes the trace. Returns the exit status: 0, 3 for a text that is refused,
-/// 4 if it is out of memory, or 5 if a port failed.
+/// Reads a program text, a line `.run` and a schedule from `input`, and writes the trace of the run. Returns the exit status: 0,
+/// 3 if the text is refused, 4 if it is out of memory, or 5 if `input` or `output` failed, or `input` gave more than 16,777,216
+/// bytes. Unless it is 0, `errors` gets one line, by the contract of `workbench::both_cmd`.
 pub fn both_cmd<S: Source, K: Sink, E: Sink>(
     alloc: Global,
     input: &mut S,

@@ -1,5 +1,5 @@
 use Rattle.std.proofs.Common.{◌≡◌, Some}
-use Rattle.commands.proofs.Reported.{none, whole}
+use Rattle.commands.proofs.WrittenChoices.{none, whole}
 use Rattle.commands.proofs.choices.choices.Goals as goal
 
 pub returns-in-Ok-None-clause-done : goal.returns-in-Ok-None-clause-done

@@ -1,4 +1,4 @@
--- What is told of a trace's choices.
+-- What is written of a trace's choices.
 use Rattle.std.proofs.Common.{◌≡◌, ℕ, true, false, List, ◌++◌, Some, None, refl, subst, rules, Option, is_none}
 use Rattle.std.proofs.KnownBytes.{Appends-trans}
 use Rattle.std.specs.Io.KnownBytes.{Appends}
