@@ -35,6 +35,12 @@ undone_by false old new choice event is machine has =
     let same = has.idle (steps_after old new choice event false is has) in
     record { undo = idle_back old new same; can = idle_undone old new machine same }
 
+-- what is to be saved, from its parts
+pub kept_by : (ready : Bool) (note : scene.Note) (choice : Choice) (old : StoredWorld)
+    → ready ≡ is_choice_ready old.program choice (scene_of old.scene) → note ≡ scene.note_of choice.thread old.program old.scene
+    → (if ready then Some note else None) ≡ kept_of choice old
+kept_by ready note choice old is_ready is_note = cc
+
 -- a choice that was played is a step, whatever is kept of one that was refused
 pub step_is : (result : Result Event StepFault) (old new : StoredWorld) (choice : Choice) (kept : Option scene.Note) → IsMachine old
     → HasPlayed old choice result new → (choice.thread < length old.scene.threads → kept ≡ kept_of choice old) → IsStep old choice result kept new

@@ -127,18 +127,19 @@ impl Machine {
         ensures { IsStep self.old choice result (kept_of choice self.old) self.new }
     {
         self.is_sound();
+        if choice.thread as usize >= self.stage.thread_count() {
+            return Err(StepFault::NoSuchThread);
+        }
         self.play(choice)
     }
 
-    /// Plays one choice: idle and common turns itself, others by `seldom`. It first checks the thread and the choices left.
+    /// Plays one choice: idle and common turns itself, others by `seldom`. It first checks the choices left.
     #[inline(always)]
     fn play(&mut self, choice: Choice) -> Result<Event, StepFault>
+        requires there { choice.thread < length self.old.scene.threads }
         ensures { HasPlayed self.old choice result self.new }
     {
         let t = choice.thread as usize;
-        if t >= self.stage.thread_count() {
-            return Err(StepFault::NoSuchThread);
-        }
         if self.choices == MOST_CHOICES {
             return Err(StepFault::StepLimit);
         }
@@ -238,20 +239,15 @@ impl Machine {
         ensures { IsStep self.old choice result undo.new self.new }
     {
         self.is_sound();
-        self.keep(choice, undo);
-        self.play(choice)
-    }
-
-    /// Saves in `undo` what a choice may change of the machine, if there is such a thread.
-    #[inline(always)]
-    fn keep(&self, choice: Choice, undo: &mut Undo)
-        ensures { choice.thread < length self.now.scene.threads → undo.new ≡ kept_of choice self.now }
-    {
-        let thread = choice.thread as usize;
-        if thread < self.stage.thread_count() {
-            self.stage.note(&self.program, thread, &mut undo.note);
-            undo.is_turn = self.is_choice_ready(choice);
+        let t = choice.thread as usize;
+        if t >= self.stage.thread_count() {
+            return Err(StepFault::NoSuchThread);
         }
+        self.stage.note(&self.program, t, &mut undo.note);
+        let is_turn = self.is_choice_ready(choice);
+        let played = self.play(choice);
+        undo.is_turn = is_turn;
+        played
     }
 
     /// Plays one choice. Returns its event, and what `back` needs to undo it.
