@@ -4,6 +4,7 @@ pub mod Moves
 pub mod Goes
 pub mod Places
 pub mod Unmarked
+pub mod Rings
 pub mod PlayedRuns
 pub mod Replies
 pub mod Standings

@@ -128,7 +128,7 @@ impl Debugger {
         let before = self.machine().steps();
         match self.step(choice) {
             Ok(_) => {
-                if self.machine().steps() != before && self.stands_at_break(choice.thread) {
+                if self.stands_at_break(choice.thread) && self.machine().steps() != before {
                     Went::Break
                 } else {
                     Went::On
