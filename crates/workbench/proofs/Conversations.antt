@@ -5,7 +5,9 @@ use Rattle.std.proofs.lemmas.{Grind.flat_map-append, List.flat_map_more}
 use Rattle.std.proofs.lemmas.List.Elements.{All-nil, All-cons, All-append}
 use Rattle.std.specs.{List.flat_map, Io.KnownBytes.Appends, Io.KnownBytes.Consumes, Io.KnownBytes.IsAtEnd}
 use Rattle.trace_text.specs.RunText.{GivesOnAndOn}
-use Rattle.debugger.specs.{Session.Session, Command.Order, Command.Quit, Command.goes_on, Command.line_order, Reply.Replies}
+use Rattle.debugger.specs.{Session.Session, Command.Order, Command.Quit, Command.goes_on, Command.line_order, Reply.IsCarriedOut, Reply.Replies}
+use Rattle.debugger.specs.declared.session.reply.CommandFault.{CommandFault}
+use Rattle.debugger.specs.declared.session.reply.CommandFault.TheVariants as command
 use Rattle.workbench.specs.{declared.fault.Fault.Fault, Input.GivesInEach, Input.IsCounted}
 use Rattle.workbench.specs.Debug.{Converses, Cut, Ending, Ends, Exchange, Finished, GivesFew, HasConversed, HasNoEnd, HasReadLines, IsDialogue, Unanswered, bytes_of}
 use Rattle.workbench.specs.declared.fault.Fault.TheVariants as fault
@@ -229,6 +231,17 @@ given_on a b c bytes byte given more = Consumes-trans a b c bytes (byte ∷ []) 
 pub one_more : (bytes : List ℕ) (byte : ℕ) → HasNoEnd bytes → byte ≢ 10 → HasNoEnd (bytes ++ byte ∷ [])
 one_more bytes byte none other =
     All-append (λ b. b ≢ 10) bytes (byte ∷ []) none (All-cons (λ b. b ≢ 10) byte [] other (All-nil (λ b. b ≢ 10)))
+
+-- what is so if a command was not carried out, or its reply not written
+pub nothing_written : (wants : Type 0) (why : CommandFault) (session after : Session) (order : Order) (x y : Option (List ℕ)) (of : Bool)
+    → why ≡ command.Memory → IsCarriedOut {A = Bool} wants (Err why) session order after x y of → y ≡ x
+nothing_written wants command.Memory session after order x y of is carried = carried.2
+nothing_written wants command.Write session after order x y of is carried = absurd (cc is)
+
+pub output_failed : (wants : Type 0) (why : CommandFault) (session after : Session) (order : Order) (x y : Option (List ℕ)) (of : Bool)
+    → why ≡ command.Write → IsCarriedOut {A = Bool} wants (Err why) session order after x y of → IsTrue of
+output_failed wants command.Memory session after order x y of is carried = absurd (cc is)
+output_failed wants command.Write session after order x y of is carried = carried.1
 
 -- a line was read whose reply wasn't written
 pub unanswered : (f : Fault) (session : Session) (a b x y : Option (List ℕ)) (line : List ℕ) (is_ended : Bool) (n : ℕ) (cf of : Bool)

@@ -1,9 +1,9 @@
 // A session of the debugger: a line is read, carried out and replied to before the next one.
-ghost use Rattle.std.specs.Prelude.{◌≡◌, ◌⊎◌, ◌+◌, ◌∷◌, [], true, false, List, ℕ, length, None, Some, Ok, Err, IsTrue, IfOk, IfErr, OnOk, Result};
+ghost use Rattle.std.specs.Prelude.{◌≡◌, ◌⊎◌, ◌+◌, ◌∷◌, [], true, false, ℕ, length, None, Some, Ok, Err, IsTrue, IfOk, IfErr, OnOk, Result};
 ghost use Rattle.std.specs.Io.KnownBytes.{Appends, Consumes};
 ghost use Rattle.trace_compare.specs.Naming.{HasNamed};
 ghost use Rattle.trace_text.specs.{Outcome.IsUntouched, RunText.GivesOnAndOn};
-ghost use Rattle.debugger.specs.{Command.goes_on, Command.line_order, Reply.Replies, declared.stop.Stop.Stop};
+ghost use Rattle.debugger.specs.declared.stop.Stop.{Stop};
 ghost use Rattle.row_code.specs.declared.image.Image.{Image};
 ghost use Rattle.workbench.specs.declared.debug.PlayedTrace.TheVariants as played;
 ghost use Rattle.workbench.specs.{declared.fault.Fault.Fault, Compare.verdict_line, Done.IsSettledBy, Done.as_asked};
@@ -243,23 +243,8 @@ fn take_turn<C: Companion, K: Sink>(
     if !is_ended && line.is_empty() {
         return Ok(false);
     }
-    match answer(debugger, line.as_slice(), output) {
+    match debugger.command(line.as_slice(), output) {
         Ok(goes_on) => Ok(is_ended && goes_on),
-        Err(fault) => Err(fault),
-    }
-}
-
-/// Carries out the command in `line`, and writes its reply. Returns whether the session goes on: false after `q`.
-fn answer<K: Sink>(debugger: &mut Debugger, line: &[u8], output: &mut K) -> Result<bool, Fault>
-    ensures answered { OnOk result ((text : List ℕ)
-        × (Replies debugger.old (line_order line.now) debugger.new text
-        × Appends (K.written output.old) (K.written output.new) text)) }
-    ensures goes_on { IfOk result (λ more. more ≡ goes_on (line_order line.now)) }
-    ensures fault { IfErr result (λ fault. ((fault ≡ Fault.Memory) × (K.written output.new ≡ K.written output.old))
-        ⊎ ((fault ≡ Fault.Write) × IsTrue (K.has_failed output.new))) }
-{
-    match debugger.command(line, output) {
-        Ok(goes_on) => Ok(goes_on),
         Err(CommandFault::Memory) => Err(Fault::Memory),
         Err(CommandFault::Write) => Err(Fault::Write),
     }
