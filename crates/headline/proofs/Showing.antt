@@ -89,11 +89,11 @@ file-shown (Ok end) image schedule_before schedule_after schedule_failed before 
     )
 file-shown (Err f) image schedule_before schedule_after schedule_failed before after failed comes = tt
 
-pub file-debugged : (result : Result (Unit {0}) Fault) (runs : Option (List Run)) (image : Image)
+pub file_debugged : (result : Result (Unit {0}) Fault) (runs : Option (List Run)) (image : Image)
     (commands_before commands_after : Option (List ℕ)) (commands_failed : Bool) (before after : Option (List ℕ)) (failed : Bool)
     → Debugs runs image result commands_before commands_after commands_failed before after failed
     → OnOk result ((file : List ℕ) → IsProgramFile file image → HasDebuggedFile runs file commands_before commands_after before after)
-file-debugged (Ok done) runs image commands_before commands_after commands_failed before after failed
+file_debugged (Ok done) runs image commands_before commands_after commands_failed before after failed
     (session, (now, (output_then, ((world, ((loads, first), same)), begun, held)))) = λ file is. (
       image,
       (
@@ -112,31 +112,31 @@ file-debugged (Ok done) runs image commands_before commands_after commands_faile
         ),
       ),
     )
-file-debugged (Err f) runs image commands_before commands_after commands_failed before after failed debugs = tt
+file_debugged (Err f) runs image commands_before commands_after commands_failed before after failed debugs = tt
 
-pub file-debugged-at : (result : Result Done Fault) (image : Image) (trace_before trace_after : Option (List ℕ)) (trace_failed : Bool)
+pub file_debugged_at : (result : Result Done Fault) (image : Image) (trace_before trace_after : Option (List ℕ)) (trace_failed : Bool)
     (commands_before commands_after : Option (List ℕ)) (commands_failed : Bool) (before after : Option (List ℕ)) (failed : Bool)
     → DebugsAt image result trace_before trace_after trace_failed commands_before commands_after commands_failed before after failed
     → result ≡ Ok done.AsAsked → (file : List ℕ) → IsProgramFile file image
     → HasDebuggedFileAt file trace_before trace_after commands_before commands_after before after
-file-debugged-at result image trace_before trace_after trace_failed commands_before commands_after commands_failed before after failed debugs is =
+file_debugged_at result image trace_before trace_after trace_failed commands_before commands_after commands_failed before after failed debugs is =
     let (runs, (named, held)) = subst
     (λ r. DebugsAt image r trace_before trace_after trace_failed commands_before commands_after commands_failed before after failed)
     is debugs in
     λ file is_file.
-    (runs, (named, file-debugged (Ok tt) (Some runs) image commands_before commands_after commands_failed before after failed held file is_file))
+    (runs, (named, file_debugged (Ok tt) (Some runs) image commands_before commands_after commands_failed before after failed held file is_file))
 
-pub choices-shown : (result : Result RunEnd RunFault) (image : Image) (choices : List Choice) (before after : Option (List ℕ)) (failed : Bool)
+pub choices_shown : (result : Result RunEnd RunFault) (image : Image) (choices : List Choice) (before after : Option (List ℕ)) (failed : Bool)
     → ComesOfChoices image choices result before after failed
     → OnOk result ((file : List ℕ) → IsProgramFile file image → HasShownChoices file choices before after)
-choices-shown (Ok end) image choices before after failed (world, (begins, (ends, appends))) = λ file is.
+choices_shown (Ok end) image choices before after failed (world, (begins, (ends, appends))) = λ file is.
     (image, ((is, (file_image file image is, begins.0)), first_trace image world choices before after begins appends))
-choices-shown (Err f) image choices before after failed came = tt
+choices_shown (Err f) image choices before after failed came = tt
 
-pub live-shown : (result : Result RunEnd Fault) (limit : ℕ) (image : Image) (before after : Option (List ℕ)) (failed : Bool)
+pub live_shown : (result : Result RunEnd Fault) (limit : ℕ) (image : Image) (before after : Option (List ℕ)) (failed : Bool)
     → Lives limit image result before after failed
     → OnOk result ((file : List ℕ) → IsProgramFile file image → HasShownLive limit file before after)
-live-shown (Ok end) limit image before after failed
+live_shown (Ok end) limit image before after failed
     (runs, (world, (are, (first, (last, (ending, (loads, begun, replay, over)))), begins, (ends, appends)))) = λ file is. (
       image,
       (
@@ -148,7 +148,7 @@ live-shown (Ok end) limit image before after failed
         ),
       ),
     )
-live-shown (Err f) limit image before after failed lives = tt
+live_shown (Err f) limit image before after failed lives = tt
 
 -- a text whose program has a fault isn't shown
 pub never-shown : (text : List ℕ) (image : Image) (why : LoadFault) (before after : Option (List ℕ))
@@ -164,11 +164,11 @@ all-verdict world bytes left v (inl (end, is)) = is
 all-verdict world bytes left v (inr has) = ap (verdict_of world) (sym (append-nil bytes)) ∙ has []
 
 -- a trace that is found the same
-pub same-found : (result : Result Verdict Fault) (image : Image) (trace_before trace_after : Option (List ℕ)) (trace_failed : Bool)
+pub same_found : (result : Result Verdict Fault) (image : Image) (trace_before trace_after : Option (List ℕ)) (trace_failed : Bool)
     (before after : Option (List ℕ)) (failed : Bool)
     → WritesVerdict image result trace_before trace_after trace_failed before after failed
     → result ≡ Ok verdict.Same → (file : List ℕ) → IsProgramFile file image → HasFoundTheSame file trace_before trace_after
-same-found result image trace_before trace_after trace_failed before after failed writes is =
+same_found result image trace_before trace_after trace_failed before after failed writes is =
     let ((world, (bytes, ((loads, first), consumed, has))), end, told) =
     subst (λ r. WritesVerdict image r trace_before trace_after trace_failed before after failed) is writes in
     λ file is_file. (

@@ -53,6 +53,7 @@ pub fn run<S: Source, K: Sink>(
 }
 
 /// Plays the choices of these runs on an image's program, writes the trace, and returns how the run has ended.
+#[tactic(auto, using(crate::proofs::Showing::choices_shown))]
 pub fn run_choices<K: Sink>(
     alloc: Global,
     image: Image,
@@ -68,6 +69,7 @@ pub fn run_choices<K: Sink>(
 }
 
 /// Carries out the commands of a session on an image's program, and writes the replies.
+#[tactic(auto, using(crate::proofs::Showing::file_debugged))]
 pub fn debug<C: Companion, K: Sink>(
     alloc: Global,
     image: Image,
@@ -84,6 +86,7 @@ pub fn debug<C: Companion, K: Sink>(
 }
 
 /// Plays runs of choices as the command `g` does, then carries out the commands of a session, and writes all replies.
+#[tactic(auto, using(crate::proofs::Showing::file_debugged))]
 pub fn debug_behind<C: Companion, K: Sink>(
     alloc: Global,
     image: Image,
@@ -122,6 +125,7 @@ pub fn debug_at<T: Source, C: Companion, K: Sink>(
 }
 
 /// Plays an image's program on real threads, writes the trace of the choices that they made, and returns how the run has ended.
+#[tactic(auto, using(crate::proofs::Showing::live_shown))]
 pub fn live<R: Threads + Wait + Sync, G: Gate + Sync, K: Sink>(
     threads: &R,
     alloc: Global,
@@ -183,6 +187,7 @@ pub fn list<K: Sink>(alloc: Global, image: &Image, output: &mut K) -> Result<(),
 }
 
 /// A law: a trace has the verdict `Same` exactly if it is that of the choices that its lines name, from the first state.
+#[tactic(auto, using(crate::proofs::Sames::same_alone))]
 pub fn the_same_is_that_trace_alone()
     ensures { (image : Image) (first : World) (trace : List ℕ) → IsFirstOf image 1000000000 first
         → (verdict_of first trace ≡ verdict.Same) ↔ (trace ≡ trace_of (start image) (choices_of_trace trace)) }
@@ -196,6 +201,7 @@ pub fn what_is_refused_is_never_shown()
 {}
 
 /// A law: at each line of a session, the machine is in the state after the choices that were played and not taken back.
+#[tactic(auto, using(crate::proofs::Sessions::give_the_rows))]
 pub fn sessions_give_the_rows()
     ensures { SessionsGiveTheRows }
 {}
