@@ -1,5 +1,5 @@
 -- Where the fault of a text is: the word that is wrong, and its place in its line.
-use Rattle.std.specs.Prelude.{◌≡◌, ◌⊎◌, ℕ, zero, ◌+◌, ◌-◌, ◌≤◌, not, if◌then◌else◌, false, true, List, [], ◌∷◌, length, take, drop, Option, Some, None, option_map, is_some, IfSome, MatchOption, Result, Ok, Err, slice_get}
+use Rattle.std.specs.Prelude.{◌≡◌, ◌⊎◌, ℕ, zero, ◌+◌, ◌-◌, ◌≤◌, not, if◌then◌else◌, false, true, List, [], ◌∷◌, length, take, drop, Option, Some, None, option_map, is_some, IfSome, Ok, Err, slice_get}
 use Rattle.std.specs.List.{before_first, position, slice_split}
 use Rattle.instruction_table.specs.declared.shape.OperandKind.{OperandKind}
 use Rattle.instruction_table.specs.declared.shape.OperandKind.TheVariants as kind

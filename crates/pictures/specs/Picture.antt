@@ -11,7 +11,7 @@ use Rattle.instruction_table.specs.declared.row.Row.TheVariants.{Paaa, Pawait, P
 use Rattle.instruction_table.specs.declared.shape.OperandKind.TheVariants as kind
 use Rattle.loader.specs.Program.{row_at}
 use Rattle.machine_scene.specs.{Outcomes.is_ready, Outcomes.outcome_of, PhaserRows.is_past}
-use Rattle.machine_scene.specs.Scene.{Outcome, Scene, thread_at}
+use Rattle.machine_scene.specs.Scene.{Scene, thread_at}
 use Rattle.thread_machine.specs.{declared.choice.Choice.Choice, declared.fault.StepFault.StepFault, Execution.execution}
 use Rattle.thread_machine.specs.{Ready.can_expire, Ready.is_stuck, Step.Played, Step.played, Step.refusal_of, World.World}
 use Rattle.thread_machine.specs.declared.fault.StepFault.TheVariants as fault

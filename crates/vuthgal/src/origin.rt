@@ -2,4 +2,4 @@
 
 /// The version, and the sum of the sources but for this file.
 pub const VERSION: &str =
-    "2.0.0\nsources 5785ccebc8c3fc38389a2dc22cf667bb71cf2a308e93c4ba88fc181e0b22eda9";
+    "2.0.0\nsources f3634b36ff760accbb0db4a17078777eb17d33e362ea93b6f7a47f4d4625bdc8";

@@ -1,5 +1,4 @@
-use Rattle.std.proofs.{Common.◌-◌, Common.arith, lemmas.Grind.common_steps}
-use Rattle.schedule_reader.specs.declared.fault.ScheduleFault.TheVariants as fault
+use Rattle.std.proofs.{Common.arith, lemmas.Grind.common_steps}
 use Rattle.schedule_reader.proofs.Numbers.{thread-digit, thread-too_far}
 use Rattle.schedule_reader.proofs.place.thread_digit.Goals as goal
 

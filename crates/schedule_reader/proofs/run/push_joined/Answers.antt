@@ -1,4 +1,4 @@
-use Rattle.std.proofs.{Common.◌-◌, Common.arith, lemmas.Grind.common_steps}
+use Rattle.std.proofs.{Common.arith, lemmas.Grind.common_steps}
 use Rattle.schedule_reader.proofs.Runs.{again, joined-again, joined-first, joined-own, spelled-own}
 use Rattle.schedule_reader.proofs.run.push_joined.Goals as goal
 

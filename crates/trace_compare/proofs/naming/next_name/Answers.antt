@@ -1,6 +1,5 @@
 use Rattle.std.proofs.lemmas.Grind.{common_steps}
 use Rattle.std.proofs.Common.{arith, ◌≡◌, ◌∙◌, ap, sym, subst}
-use Rattle.trace_compare.specs.declared.naming.NextName.TheVariants as NextName
 use Rattle.trace_compare.specs.{NamedLines.HasEnded, NamedLines.last_naming, NamedLines.next_by, Naming.line_names}
 use Rattle.trace_compare.proofs.NamedLines.{line-last, line-made}
 use Rattle.trace_compare.proofs.naming.next_name.Goals as goal

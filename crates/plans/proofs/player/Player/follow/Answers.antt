@@ -1,4 +1,4 @@
-use Rattle.std.proofs.Common.{◌∙◌, ◌-◌, ◌<◌, ◌≤◌, sym, rules, arith}
+use Rattle.std.proofs.Common.{◌∙◌, ◌<◌, ◌≤◌, sym, rules, arith}
 use Rattle.plans.proofs.Repeats.{next_followed, none_followed, over_followed, all_followed}
 use Rattle.plans.proofs.player.Player.follow.Goals as goal
 

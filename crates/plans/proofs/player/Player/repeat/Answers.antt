@@ -1,4 +1,4 @@
-use Rattle.std.proofs.Common.{◌∙◌, ◌-◌, ◌<◌, ◌≤◌, sym, rules, arith}
+use Rattle.std.proofs.Common.{◌∙◌, ◌<◌, ◌≤◌, sym, rules, arith}
 use Rattle.plans.specs.Progress.{chosen}
 use Rattle.plans.proofs.Repeats.{next_repeated, over_repeated, all_repeated}
 use Rattle.plans.proofs.player.Player.repeat.Goals as goal

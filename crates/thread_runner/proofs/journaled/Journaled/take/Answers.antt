@@ -1,4 +1,4 @@
-use Rattle.std.proofs.Common.{◌≡◌, ◌∙◌, ap, arith, rules, sym, subst, true}
+use Rattle.std.proofs.Common.{◌≡◌, ◌∙◌, ap, arith, rules, sym, subst}
 use Rattle.thread_machine.specs.{World.World, World.world_of, World.first_world}
 use Rattle.thread_machine.specs.Step.{Played, played}
 use Rattle.thread_runner.specs.{Recording.recording_of, Recording.recorded_world, Recording.with_choice, Turns.IsDue}

@@ -1,4 +1,4 @@
-use Rattle.std.proofs.{Common.◌-◌, Common.arith, lemmas.Grind.common_steps}
+use Rattle.std.proofs.{Common.arith, lemmas.Grind.common_steps}
 use Rattle.trace_compare.proofs.RunLines.{at-next, kept-state}
 use Rattle.trace_compare.proofs.comparison.Comparison.end_verdict.Goals as goal
 
