@@ -1,5 +1,5 @@
 //! A meeting, played with the calls of `headline`: what a schedule leaves and shows, and what is taken back.
-use crate::programs::{LISTED, MEETING, MEETING_RUN, TRACE, image_of};
+use crate::programs::{LISTED, MEETING, MEETING_RUN, TRACE, image_of, refused};
 use assembler::{assemble, disassemble};
 use byte_ports::{MemorySink, MemorySource};
 use debugger::{Debugger, Stop};
@@ -29,7 +29,7 @@ fn met(alloc: Global, threads: &[u8]) -> Result<Machine, Fail> {
     for thread in threads {
         choices.push(turn(*thread))?;
     }
-    Ok(play(alloc, image_of(alloc, MEETING)?, choices.as_slice())?)
+    play(alloc, image_of(alloc, MEETING)?, choices.as_slice()).map_err(|_| refused())
 }
 
 /// Checks that the meeting's schedule ends both threads, and that each puts out 1, the phase that follows.
@@ -60,13 +60,14 @@ fn a_meeting_is_taken_back(rt: HostRuntime) -> Result<(), Fail> {
     assert!(rt; step_and_back(&mut machine, turn(1)).is_ok());
     assert!(rt; step(&mut machine, turn(2)).is_err());
     assert!(rt; state_text(alloc, &machine)?.as_slice() == before.as_slice());
-    let (_, undo) = step(&mut machine, turn(1))?;
+    let (_, undo) = step(&mut machine, turn(1)).map_err(|_| refused())?;
     let steps = machine.steps();
     take_back(&mut machine, undo);
     assert!(rt; steps == 2 && machine.steps() == 1);
     let mut debugger = Debugger::new(alloc, machine, 6)?;
     let choices = [turn(1), turn(0), turn(0), turn(0), turn(1), turn(1)];
-    assert!(rt; steps_and_backs(alloc, &mut debugger, &choices)?.len() == 6);
+    let events = steps_and_backs(alloc, &mut debugger, &choices).map_err(|_| refused())?;
+    assert!(rt; events.len() == 6);
     assert!(rt; state_text(alloc, debugger.machine())?.as_slice() == before.as_slice());
     Ok(())
 }
@@ -107,7 +108,7 @@ fn its_program_is_listed(rt: HostRuntime) -> Result<(), Fail> {
     let mut output = MemorySink::new(alloc, 1000, None)?;
     assert!(rt; list(alloc, &image_of(alloc, MEETING)?, &mut output).is_ok());
     assert!(rt; output.bytes() == LISTED);
-    let again = assemble(alloc, LISTED)?;
+    let again = assemble(alloc, LISTED).map_err(|_| refused())?;
     assert!(rt; disassemble(alloc, &again)?.as_slice() == LISTED);
     Ok(())
 }

@@ -1,7 +1,7 @@
 //! The limits of a machine.
 ghost use Rattle.std.specs.Prelude.{◌≤◌};
 
-use crate::programs::{MEETING, program_of};
+use crate::programs::{MEETING, program_of, refused};
 use std::alloc::Global;
 use std::test::Fail;
 use thread_machine::{Choice, Machine, StepFault};
@@ -53,7 +53,7 @@ fn idle_choices_end_at_the_most(rt: HostRuntime) -> Result<(), Fail> {
 fn steps_end_at_the_limit(rt: HostRuntime) -> Result<(), Fail> {
     let mut machine = machine_of(rt.alloc(), ".thread a m\nm: jmp m\n", 3)?;
     for _ in 0..3 {
-        machine.step(TURN)?;
+        machine.step(TURN).map_err(|_| refused())?;
     }
     assert!(rt; machine.step(TURN) == Err(StepFault::StepLimit));
     assert!(rt; machine.steps() == 3);

@@ -1,4 +1,5 @@
 //! A schedule in two pieces.
+use crate::programs::refused;
 use schedule_reader::{Reader, Run};
 use std::test::Fail;
 use thread_machine::Choice;
@@ -14,9 +15,9 @@ fn a_token_may_be_cut_anywhere(rt: HostRuntime) -> Result<(), Fail> {
     for cut in 0..=5usize {
         let mut runs = Vec::new(rt.alloc());
         let mut reader = Reader::new();
-        reader.feed(&text[..cut], &mut runs)?;
-        reader.feed(&text[cut..], &mut runs)?;
-        reader.finish(&mut runs)?;
+        reader.feed(&text[..cut], &mut runs).map_err(|_| refused())?;
+        reader.feed(&text[cut..], &mut runs).map_err(|_| refused())?;
+        reader.finish(&mut runs).map_err(|_| refused())?;
         assert!(rt;
             runs.as_slice() == [Run { choice, times: 3 }].as_slice(),
             "{cut}"

@@ -2,6 +2,7 @@
 ghost use Rattle.std.specs.Prelude.{◌≡◌, IfOk};
 ghost use Rattle.shared_phaser.specs.Known.{phaser_of};
 
+use crate::programs::refused;
 use Call::{Arrive, Force, Register};
 use Policy::{Default, Never, Until};
 use Reply::{Counted, Dead, TooMany};
@@ -101,7 +102,9 @@ fn go_on(phaser: &SharedPhaser, party: &mut Party, calls: &[(Call, Reply, u64)])
 fn calls_in_a_row(rt: HostRuntime) -> Result<(), Fail> {
     for (parties, phase, policy, calls) in &SESSIONS {
         let phase = Phase::prevailing(*phase);
-        let (phaser, mut party) = SharedPhaser::new(rt.alloc(), *parties, *policy, phase)?;
+        let (phaser, mut party) = SharedPhaser::new(rt.alloc(), *parties, *policy, phase).map_err(
+            |_| refused(),
+        )?;
         assert!(rt; go_on(&phaser, &mut party, *calls), "{parties}");
     }
     Ok(())
@@ -110,15 +113,15 @@ fn calls_in_a_row(rt: HostRuntime) -> Result<(), Fail> {
 /// Checks that a shared phaser can't have rows of a program as its `onAdvance`.
 #[test]
 fn a_routine_is_refused(rt: HostRuntime) {
-    let refused = SharedPhaser::new(rt.alloc(), 1, Policy::Routine, Phase::prevailing(0));
-    assert!(rt; refused.err() == Some(NewFault::RoutinePolicy));
+    let answer = SharedPhaser::new(rt.alloc(), 1, Policy::Routine, Phase::prevailing(0));
+    assert!(rt; answer.err() == Some(NewFault::RoutinePolicy));
 }
 
 /// Makes a phaser in phase 0, and its first caller: a `Party` is what a caller needs for its calls.
-fn new_phaser(alloc: Global, parties: u16) -> Result<(SharedPhaser, Party), NewFault>
+fn new_phaser(alloc: Global, parties: u16) -> Result<(SharedPhaser, Party), Fail>
     ensures { IfOk result (λ r. (phaser_of r.1 ≡ r.0) × (r.1.known.number ≡ 0)) }
 {
-    SharedPhaser::new(alloc, parties, Default, Phase::prevailing(0))
+    SharedPhaser::new(alloc, parties, Default, Phase::prevailing(0)).map_err(|_| refused())
 }
 
 /// Checks that no call waits on a terminated phaser: each returns the view.
@@ -149,7 +152,7 @@ fn nobody_waits_without_need(rt: HostRuntime) -> Result<(), Fail> {
 /// phaser is terminated in phase 2.
 #[test]
 fn calls_are_made_whatever_it_takes(rt: HostRuntime) -> Result<(), Fail> {
-    let (phaser, mut party) = SharedPhaser::new(rt.alloc(), 1, Default, Phase::prevailing(0))?;
+    let (phaser, mut party) = new_phaser(rt.alloc(), 1)?;
     assert!(rt; phaser.arrive_and_await_advance(&rt, &mut party) == Ok(1));
     assert!(rt; phaser.register(&rt, &mut party, 1) == Counted(1));
     assert!(rt; phaser.arrive_and_deregister(&rt, &mut party) == Counted(1));
@@ -189,7 +192,7 @@ fn released<R: Threads + Wait + Sync>(
     alloc: Global,
     call: Call,
 ) -> Option<(i32, Option<Reply>)> {
-    let (phaser, mut first) = new_phaser(alloc, 1).ok()?;
+    let (phaser, mut first) = SharedPhaser::new(alloc, 1, Default, Phase::prevailing(0)).ok()?;
     let mut second = phaser.split(&mut first);
     let shared = &phaser;
     let waiting = &mut first;
