@@ -67,8 +67,8 @@ impl Sink for MemorySink {
         ensures room { OnOk result (self.new.room ≡ self.old.room) }
         ensures err { OnErr result (self.new ≡ record self.old { failed = true }) }
     {
-        let is_full = self.room - self.written.len() < bytes.len();
-        if self.failed || is_next_call(self.fail_at) || is_full {
+        let is_too_long = self.room - self.written.len() < bytes.len();
+        if self.failed || is_next_call(self.fail_at) || is_too_long {
             self.failed = true;
             return Err(Failed);
         }

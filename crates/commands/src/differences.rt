@@ -46,42 +46,44 @@ fn name_of<'a>(names: &[&'a [u8]], line: &'a [u8]) -> &'a [u8] {
     }
 }
 
+/// Writes a way in which a line differs from the other: after a blank if it is the first way, or else after a comma.
+fn push_way<E: Sink>(errors: &mut E, is_first: &mut bool, way: &[u8]) -> Result<(), Failed> {
+    errors.push(if *is_first { b" ".as_slice() } else { b", " })?;
+    *is_first = false;
+    errors.push(way)
+}
+
 /// Writes how a thread's line differs from its line in the other state, `first`: in its status, its output and whether it is
 /// interrupted, or else in its row, its registers or its stack.
 fn push_thread<E: Sink>(errors: &mut E, line: &[u8], first: &[u8]) -> Result<(), Failed> {
-    let output = output_of(line);
-    let mut before: &[u8] = b" ";
+    let mut is_first = true;
     if word(line, 2) != word(first, 2) {
-        errors.push(before)?;
-        errors.push(word(line, 2))?;
-        before = b", ";
+        push_way(errors, &mut is_first, word(line, 2))?;
     }
+    let output = output_of(line);
     if output != output_of(first) {
-        errors.push(before)?;
-        errors.push(if output == b"out".as_slice() {
-            b"out nothing"
-        } else {
-            output
-        })?;
-        before = b", ";
+        let has_none = output == b"out".as_slice();
+        let way: &[u8] = if has_none { b"out nothing" } else { output };
+        push_way(errors, &mut is_first, way)?;
     }
     if word(line, 3) != word(first, 3) {
-        errors.push(before)?;
-        errors.push(if word(line, 3) == b"0".as_slice() {
-            b"not interrupted".as_slice()
+        let is_clear = word(line, 3) == b"0".as_slice();
+        let way: &[u8] = if is_clear {
+            b"not interrupted"
         } else {
             b"interrupted"
-        })?;
-        before = b", ";
+        };
+        push_way(errors, &mut is_first, way)?;
     }
-    if before == b" ".as_slice() {
-        errors.push(if word(line, 1) == word(first, 1) {
-            b" other registers or stack"
-        } else {
-            b" another row".as_slice()
-        })?;
+    if !is_first {
+        return Ok(());
     }
-    Ok(())
+    let is_there = word(line, 1) == word(first, 1);
+    errors.push(if is_there {
+        b" other registers or stack"
+    } else {
+        b" another row"
+    })
 }
 
 /// Writes how a line differs from `first`, the other state's line about the same: `None` for a cell that is 0 there.

@@ -13,7 +13,7 @@ use byte_ports::Sink;
 use itoa::Buffer;
 use schedule_reader::{ScheduleFault, read_schedule};
 use std::alloc::{AllocError, Global};
-use trace_text::meeting::are_met;
+use trace_text::expectation::are_met;
 use trace_text::state_line::has_died;
 use workbench::done::Done;
 use workbench::fault::Fault;

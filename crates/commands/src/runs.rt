@@ -66,7 +66,8 @@ fn shown(alloc: Global, schedule: &[u8]) -> Result<String, Fault>
     }
 }
 
-/// Counts the state in which a live run ended. If it is the first such run, its schedule is kept.
+/// Counts the state in which a live run ended. If no run has ended in it before, the run's schedule is kept. There is no seed
+/// (`None`), since real threads made the choices.
 fn add_run(alloc: Global, run: &LiveRun, outcomes: &mut Outcomes) -> Result<(), Fault>
     requires few { length run.now.schedule.items ≤ 4000000000 }
     requires outcomes { (other : EndState) → IfSome (get is_state outcomes.old other) (λ outcome. outcome.times < 4294967295) }

@@ -27,7 +27,7 @@ use schedule_reader::write_schedule;
 use std::alloc::{AllocError, Global};
 use thread_machine::{Machine, Standing};
 use thread_runner::Ending;
-use trace_text::meeting::are_met;
+use trace_text::expectation::are_met;
 use workbench::Program;
 use workbench::fault::Fault;
 

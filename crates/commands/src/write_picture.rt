@@ -79,8 +79,8 @@ pub fn parts_of(file: &[u8]) -> (&[u8], &[u8])
     }
 }
 
-/// Writes a picture under this schedule, once it is whole. Returns the choice of a thread that doesn't exist, with its place,
-/// from 1, if one ended the run.
+/// Makes the picture of a program's run under `schedule`, and then writes it. If it can't be made, nothing is written. A choice
+/// of a thread that doesn't exist ends the run, and is returned with its place in the schedule, from 1.
 pub fn write<P: Picture, K: Sink>(
     alloc: Global,
     picture: &P,

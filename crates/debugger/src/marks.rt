@@ -4,11 +4,11 @@ ghost use Rattle.std.specs.Prelude.{◌≡◌, IfOk, false, length, nat_lt, repl
 use std::alloc::{AllocError, Global};
 use std::marker::Model;
 
-/// For each row of a program whether it has a breakpoint. Where none was ever set, that is known at one look.
+/// For each row of a program whether it has a breakpoint. If none was ever set, `were_ever_set` says so without a search.
 #[derive(Drop)]
 pub struct Marks {
     rows: Vec<bool>,
-    are_there: bool,
+    were_ever_set: bool,
 }
 
 impl Model for Marks {
@@ -18,7 +18,7 @@ impl Model for Marks {
 
     ghost view = { λ marks. marks.rows.items };
 
-    ghost invariant = { λ marks. marks.are_there ≡ false
+    ghost invariant = { λ marks. marks.were_ever_set ≡ false
         → marks.rows.items ≡ replicate (length marks.rows.items) false };
 }
 
@@ -29,7 +29,7 @@ impl Marks {
     {
         Ok(Marks {
             rows: Vec::from_elem(alloc, false, rows)?,
-            are_there: false,
+            were_ever_set: false,
         })
     }
 
@@ -39,7 +39,7 @@ impl Marks {
     {
         Ok(Marks {
             rows: Vec::from_slice(alloc, self.rows.as_slice())?,
-            are_there: self.are_there,
+            were_ever_set: self.were_ever_set,
         })
     }
 
@@ -53,7 +53,7 @@ impl Marks {
             Some(mark) => {
                 *mark = is_break;
                 if is_break {
-                    self.are_there = true;
+                    self.were_ever_set = true;
                 }
                 true
             }
@@ -61,11 +61,11 @@ impl Marks {
         }
     }
 
-    /// Returns whether a breakpoint was ever set. If not, no row has one.
-    pub fn are_there(&self) -> bool
+    /// Returns whether any breakpoint was ever set, even if it was cleared later. If none was, no row has one.
+    pub fn were_ever_set(&self) -> bool
         ensures { result ≡ false → self.now ≡ replicate (length self.now) false }
     {
-        self.are_there
+        self.were_ever_set
     }
 
     /// Returns whether a row has a breakpoint, or false if there is no such row.

@@ -47,7 +47,7 @@ fn window(line: &[u8], place: WordPlace) -> usize
 }
 
 impl<'a> Place<'a> {
-    /// Returns the place of a part of the line of this number, from 1, of a text. None if it has fewer lines.
+    /// Returns `part` of line `number` of a text, as a place. Lines count from 1. None if the text has fewer lines.
     pub fn in_text(text: &'a [u8], number: u64, part: Option<WordPlace>) -> Option<Place<'a>> {
         Some(Place {
             line: Line {

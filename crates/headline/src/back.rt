@@ -78,7 +78,8 @@ fn backs(debugger: &mut Debugger, count: usize)
     }
 }
 
-/// Plays these choices, takes all back, and returns their events. If one can't be played, those before it stay played.
+/// Plays these choices, takes all back, and returns their events. If one can't be played, those before it stay played. The
+/// session can take back as many: its `kept`, the most that it can, isn't less.
 pub fn steps_and_backs(
     alloc: Global,
     debugger: &mut Debugger,

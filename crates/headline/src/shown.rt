@@ -142,9 +142,10 @@ pub fn live<R: Threads + Wait + Sync, G: Gate + Sync, K: Sink>(
     workbench::live::live(threads, alloc, limit, gate, image, output)
 }
 
-/// Reads a program text, a line `.run` and a schedule from `input`, and writes the trace of the run. Returns the exit status: 0,
-/// 3 if the text is refused, 4 if it is out of memory, or 5 if `input` or `output` failed, or `input` gave more than 16,777,216
-/// bytes. Unless it is 0, `errors` gets one line, by the contract of `workbench::both_cmd`.
+/// Plays a text that has both a program and, below a line `.run`, its schedule: reads it from `input`, and writes the trace of
+/// the run to `output`. Returns the exit status: 0, 3 if the text is refused, 4 if it is out of memory, or 5 if `input` or
+/// `output` failed, or `input` gave more than 16,777,216 bytes. If it isn't 0, `errors` gets one line: `workbench::both_cmd`
+/// says which. The program reads the two parts by itself, and calls `run`.
 pub fn both_cmd<S: Source, K: Sink, E: Sink>(
     alloc: Global,
     input: &mut S,
@@ -206,7 +207,8 @@ pub fn sessions_give_the_rows()
     ensures { SessionsGiveTheRows }
 {}
 
-/// A law: a live run that may take a step makes a choice: no accepted program is over before its first choice.
+/// A law: a live run of an accepted program makes at least one choice, unless its limit of steps is 0. So a trace without
+/// choices is never the trace of such a run.
 pub fn a_live_run_chooses()
     ensures { (limit : ℕ) (image : Image) (choices : List Choice)
         → 0 < limit → Accepted image → IsRecorded image limit choices → choices ≢ [] }

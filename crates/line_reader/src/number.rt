@@ -63,8 +63,9 @@ fn value_in(word: &[u8]) -> i64
     if is_negative(word) { -digits } else { digits }
 }
 
-/// Reads a number from `low` to `high`: a minus sign if it is negative, and one to ten digits. It is `BadNumber` if it has no
-/// digits or another byte, and `OutOfRange` if it is less or greater, or has more digits.
+/// Reads a word as a number from `low` to `high`: one to ten digits, perhaps after a minus sign. The fault is `BadNumber` if
+/// the word has no digits, or another byte than these. It is `OutOfRange` if the number is less than `low` or greater than
+/// `high`, or if the word has more than ten digits. It isn't inlined, since most operands are registers and names.
 #[inline(never)]
 #[tactic(auto, unfolding(crate::specs::Reading::number_at))]
 pub fn number_at(low: i32, high: i32, word: &[u8]) -> Result<i32, AsmFaultKind>

@@ -5,7 +5,7 @@ ghost use Rattle.line_reader.specs.Words.{begins_comment, is_allowed, is_blank, 
 
 use crate::byte_kind::is_allowed;
 
-/// Returns whether a byte is a blank in a line: a space, a tab or CR.
+/// Returns whether a byte is a blank in a line: a space, a tab, or CR, so that lines may end in CR LF.
 pub fn is_blank(byte: u8) -> bool
     ensures { result ≡ is_blank byte }
 {

@@ -83,7 +83,8 @@ fn copies(alloc: Global, threads: &[Thread]) -> Result<Vec<Thread>, AllocError>
 }
 
 impl Stage {
-    /// Makes a stage with these threads, phasers and barriers, which fit the program. Cells are 0; who is ready is computed.
+    /// Makes a stage with these threads, phasers and barriers, which fit the program. All cells are 0. The sets of ready
+    /// threads are empty at first, since `ready_sets` computes them from the finished stage.
     pub fn new(
         program: &Loaded,
         threads: Vec<Thread>,
@@ -117,7 +118,7 @@ impl Stage {
                 registering: 0,
             },
         };
-        stage.ready = stage.all_looked(program);
+        stage.ready = stage.ready_sets(program);
         stage
     }
 

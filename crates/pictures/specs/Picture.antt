@@ -151,7 +151,7 @@ missing_above phasers p (suc levels) =
 abbrev pub missing_for : List PhaserState → ℕ → ℕ
 missing_for phasers p = missing_above phasers p 8
 
--- the most bytes of a name: two of them fit into a line with everything else
+-- the most bytes of a name: two of them and 46 bytes of other words fit into a line
 abbrev pub name_room : Sheet → ℕ
 name_room sheet = (sheet.width - 46) / 2
 

@@ -174,7 +174,8 @@ fn show_runs(
 }
 
 /// Returns the page of a program with its source, which may be empty, its schedule and its trace; or what is wrong with them.
-/// By the clauses, each fault is returned only if it is there, and an image with a load fault never has a page.
+/// Beside the page it returns the choice that ended the run because its thread doesn't exist, if one did (`missing`). By the
+/// clauses, each fault is returned only if it is there, and an image with a load fault never has a page.
 pub fn page(
     alloc: Global,
     frame: Frame,

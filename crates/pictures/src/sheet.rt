@@ -75,7 +75,8 @@ impl Sheet {
         usize::from(self.column).saturating_sub(1)
     }
 
-    /// Returns how many bytes a name may take in one of the last lines: it may have two, and 46 bytes of other words.
+    /// Returns how many bytes a name may take in a closing line, as `a waits at p (1 of 2 arrived): stuck`. Two names and 46
+    /// bytes of other words fit into a line. A longer line is cut.
     pub fn name_room(self) -> usize
         ensures { result ≡ name_room self }
     {

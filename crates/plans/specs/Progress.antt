@@ -9,7 +9,7 @@ use Rattle.thread_machine.specs.{World.World, World.first_world, Step.played, St
 pub record Progress : Type 0 where
   pub world : World
   pub choices : List Choice
-  pub next : ℕ
+  pub after_last : ℕ
   pub left : ℕ
   pub stopped : Bool
 
@@ -18,7 +18,7 @@ unfoldable pub begun_at : World → Progress
 begun_at world = record {
   world = world;
   choices = [];
-  next = 0;
+  after_last = 0;
   left = 1000000;
   stopped = false;
 }
@@ -33,7 +33,7 @@ chosen_by (Some fault) choice progress = progress
 chosen_by None choice progress = record {
   world = (played progress.world choice).world;
   choices = progress.choices ++ choice ∷ [];
-  next = choice.thread + 1;
+  after_last = choice.thread + 1;
   left = progress.left - 1;
   stopped = progress.stopped;
 }

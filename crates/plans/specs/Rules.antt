@@ -69,5 +69,5 @@ picked word choices = slice_get choices (word % length choices)
 -- choice k by a rule
 unfoldable pub next_choice : Rule → ℕ → Progress → Option Choice
 next_choice (rule.Alone t) k progress = alone t progress.world
-next_choice rule.TurnAbout k progress = turn_about progress.next progress.world
+next_choice rule.TurnAbout k progress = turn_about progress.after_last progress.world
 next_choice (rule.BySeed seed) k progress = picked (word_at seed k) (able progress.world)

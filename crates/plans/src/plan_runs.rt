@@ -3,14 +3,14 @@ ghost use Rattle.plans.specs.Planned.{AreRuns, IsPlanAt, IsPlanOf};
 ghost use Rattle.thread_machine.specs.World.{world_of};
 
 use crate::planned::Planned;
-use crate::player::Player;
+use crate::player::{MOST_CHOICES, Player};
 use crate::words::WordsFrom;
 use loader::Loaded;
 use std::alloc::{AllocError, Global};
 use thread_machine::Machine;
 
-/// Plays a plan of at most `most` choices from the beginning of a program. Returns its choices, the machine after them, and
-/// whether it was cut off.
+/// Plays a plan from the beginning of a program, and makes at most `most` choices. Returns its choices, the machine after them,
+/// and whether it was cut off.
 pub fn plan_runs(
     alloc: Global,
     program: Loaded,
@@ -35,7 +35,7 @@ pub fn plan_runs_at(
     ensures planned { IfOk result (λ planned. IsPlanAt (world_of machine) words.now planned) }
     ensures runs { IfOk result (λ planned. AreRuns planned.runs.items) }
 {
-    let mut player = Player::at(alloc, machine);
+    let mut player = Player::with_room(alloc, machine, MOST_CHOICES);
     player.play_words(alloc, &mut words.again())?;
     Ok(player.into_planned())
 }

@@ -15,14 +15,14 @@ use thread_machine::{Choice, Machine, StepFault};
 /// The machine's limit of effective steps: more than there are choices.
 const MOST_STEPS: u32 = 1_000_000_000;
 /// The most choices that a plan makes.
-const MOST_CHOICES: u32 = 1_000_000;
+pub const MOST_CHOICES: u32 = 1_000_000;
 
 /// A machine, the choices that led to it, and how many more are allowed.
 #[derive(Drop)]
 pub struct Player {
     machine: Machine,
     runs: Vec<Run>,
-    next: u8,
+    after_last: u8,
     left: u32,
     stopped: bool,
 }
@@ -38,7 +38,7 @@ impl Model for Player {
     ghost view = { λ player. record {
       world = world_of player.machine;
       choices = choices_of player.runs.items;
-      next = player.next;
+      after_last = player.after_last;
       left = player.left;
       stopped = player.stopped;
     } };
@@ -47,20 +47,6 @@ impl Model for Player {
 }
 
 impl Player {
-    /// Returns a player that may make 1,000,000 choices from a machine's present state on.
-    #[tactic(auto, unfolding(crate::specs::Progress::begun_at))]
-    pub fn at(alloc: Global, machine: Machine) -> Player
-        ensures { result ≡ begun_at (world_of machine) }
-    {
-        Player {
-            machine,
-            runs: Vec::new(alloc),
-            next: 0,
-            left: MOST_CHOICES,
-            stopped: false,
-        }
-    }
-
     /// Returns a player that may make `most` choices from a machine's present state on.
     #[tactic(auto, unfolding(crate::specs::Progress::begun_at))]
     pub fn with_room(alloc: Global, machine: Machine, most: u32) -> Player
@@ -70,7 +56,7 @@ impl Player {
         Player {
             machine,
             runs: Vec::new(alloc),
-            next: 0,
+            after_last: 0,
             left: most,
             stopped: false,
         }
@@ -153,11 +139,12 @@ impl Player {
         }
     }
 
-    /// Returns the number of the thread chosen last, plus 1: there the rule `..` begins to look. 0 before the first choice.
-    pub fn next(&self) -> u8
-        ensures { result ≡ self.now.next }
+    /// Returns the number of the thread chosen last, plus 1, or 0 before the first choice. From this number on, the rule `..`
+    /// (`turn_about`) looks for a thread that is ready.
+    pub fn after_last(&self) -> u8
+        ensures { result ≡ self.now.after_last }
     {
-        self.next
+        self.after_last
     }
 
     /// Notes that a choice was asked for when none was left.
@@ -178,7 +165,7 @@ impl Player {
         match self.machine.step(choice) {
             Ok(_) => {
                 push_joined(&mut self.runs, choice);
-                self.next = choice.thread + 1;
+                self.after_last = choice.thread + 1;
                 self.left = self.left.saturating_sub(1);
                 Ok(())
             }

@@ -90,9 +90,9 @@ impl Player {
     /// returns the lowest thread's expiry that is possible, or `None`.
     #[tactic(auto, unfolding(crate::specs::Rules::turn_about))]
     fn turn_about(&self) -> Option<Choice>
-        ensures { result ≡ turn_about self.now.next self.now.world }
+        ensures { result ≡ turn_about self.now.after_last self.now.world }
     {
-        if let Some(t) = self.first_ready(self.next()) {
+        if let Some(t) = self.first_ready(self.after_last()) {
             return Some(turn_of(t));
         }
         if let Some(t) = self.first_ready(0) {

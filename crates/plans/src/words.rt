@@ -8,7 +8,8 @@ use crate::word::Word;
 use std::alloc::{AllocError, Global};
 use std::marker::Model;
 
-/// A plan's words.
+/// A plan's words. `parts` has one part for each word. The numbers and seeds of the parts that need one are in `numbers` and
+/// `seeds`, in the same order.
 #[derive(Drop)]
 pub struct Words {
     parts: Vec<Part>,
@@ -126,8 +127,8 @@ fn taken_seed(takes: bool, seeds: &[u64]) -> u64
     }
 }
 
-/// Returns the numbers that are left after a word: without the first if its part `takes` a number, or else all of them. Of an
-/// empty list nothing is left.
+/// Returns the numbers of the words after this one: without the first if this word has a number (`takes`), or else all of them.
+/// An empty list stays empty, since `WordsFrom` doesn't promise that a number is there.
 fn numbers_left(takes: bool, numbers: &[u32]) -> &[u32]
     ensures { result.now ≡ left_of takes numbers.now }
 {
@@ -138,8 +139,7 @@ fn numbers_left(takes: bool, numbers: &[u32]) -> &[u32]
     }
 }
 
-/// Returns the seeds that are left after a word: without the first if its part `takes` a seed, or else all of them. Of an empty
-/// list nothing is left.
+/// Returns the seeds of the words after this one, as `numbers_left` does with numbers.
 fn seeds_left(takes: bool, seeds: &[u64]) -> &[u64]
     ensures { result.now ≡ left_of takes seeds.now }
 {

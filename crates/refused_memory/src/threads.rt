@@ -95,7 +95,7 @@ fn taking(trial: Trial, text: &[u8], turns: &[Run], choice: Choice, schedule: &[
     Ok(answer.provided(leads(trial.alloc, text, schedule, &record)?))
 }
 
-/// Tries `Journaled::take_step` at an `out`, of a thread that didn't have the last turn: the output and the record need memory.
+/// Tries `Journaled::take_step` at an `out` of thread 1, which needs memory for the thread's first value.
 pub fn taking_step(trial: Trial) -> Tried {
     let turns = [FIRST, SECOND, FIRST];
     taking(trial, MEETING, &turns, SECOND.choice, b"t0 t1 t0 t1")

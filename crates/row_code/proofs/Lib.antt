@@ -1,5 +1,4 @@
 pub mod RowLaws
-pub mod Written
 pub mod Cells
 pub mod Loop
 pub mod EntryLaws

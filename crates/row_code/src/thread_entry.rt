@@ -21,7 +21,7 @@ fn thread_at(at: usize, bytes: &[u8]) -> Result<DeclaredThread, ImageFault>
     Ok(DeclaredThread { first_row })
 }
 
-/// Returns the 4 bytes of a thread.
+/// Returns the entry of a thread in an image: the number of its first row in 4 bytes, the lowest first.
 fn thread_bytes(thread: DeclaredThread) -> [u8; 4]
     ensures { result ≡ thread_bytes thread }
 {

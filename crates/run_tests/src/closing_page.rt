@@ -1,4 +1,6 @@
 //! A meeting, played with the calls of `headline`: what a schedule leaves and shows, and what is taken back.
+ghost use Rattle.std.specs.Prelude.{◌≤◌};
+
 use crate::programs::{LISTED, MEETING, MEETING_RUN, TRACE, image_of, refused};
 use assembler::{assemble, disassemble};
 use byte_ports::{MemorySink, MemorySource};
@@ -51,41 +53,72 @@ fn what_is_refused_is_not_played(rt: HostRuntime) -> Result<(), Fail> {
     Ok(())
 }
 
-/// Checks that steps are taken back, one, and six of a session that keeps six; and that a refused step changes nothing.
-#[test]
-fn a_meeting_is_taken_back(rt: HostRuntime) -> Result<(), Fail> {
-    let alloc = rt.alloc();
-    let mut machine = met(alloc, &[0])?;
-    let before = state_text(alloc, &machine)?;
-    assert!(rt; step_and_back(&mut machine, turn(1)).is_ok());
-    assert!(rt; step(&mut machine, turn(2)).is_err());
-    assert!(rt; state_text(alloc, &machine)?.as_slice() == before.as_slice());
-    let (_, undo) = step(&mut machine, turn(1)).map_err(|_| refused())?;
-    let steps = machine.steps();
-    take_back(&mut machine, undo);
-    assert!(rt; steps == 2 && machine.steps() == 1);
-    let mut debugger = Debugger::new(alloc, machine, 6)?;
+/// Plays a turn and takes it back in one call, and tries a turn of a thread that doesn't exist. Returns whether the state is as
+/// before.
+fn is_as_before(alloc: Global, machine: &mut Machine) -> Result<bool, Fail> {
+    let before = state_text(alloc, machine)?;
+    let is_right = step_and_back(machine, turn(1)).is_ok() && step(machine, turn(2)).is_err();
+    Ok(is_right && state_text(alloc, machine)?.as_slice() == before.as_slice())
+}
+
+/// Plays a turn, and then takes it back. Returns whether it was the second step, and only the first is left.
+fn leaves_one_step(machine: &mut Machine) -> bool {
+    match step(machine, turn(1)) {
+        Ok((_, undo)) => {
+            let steps = machine.steps();
+            take_back(machine, undo);
+            steps == 2 && machine.steps() == 1
+        }
+        Err(_) => false,
+    }
+}
+
+/// Plays the six turns that are left, and takes all back. Returns whether there are as many events, and the state is as before.
+fn takes_six_back(alloc: Global, debugger: &mut Debugger) -> Result<bool, Fail>
+    requires { 6 ≤ debugger.old.kept }
+{
+    let before = state_text(alloc, debugger.machine())?;
     let choices = [turn(1), turn(0), turn(0), turn(0), turn(1), turn(1)];
-    let events = steps_and_backs(alloc, &mut debugger, &choices).map_err(|_| refused())?;
-    assert!(rt; events.len() == 6);
-    assert!(rt; state_text(alloc, debugger.machine())?.as_slice() == before.as_slice());
+    let events = steps_and_backs(alloc, debugger, &choices).map_err(|_| refused())?;
+    Ok(events.len() == 6 && state_text(alloc, debugger.machine())?.as_slice() == before.as_slice())
+}
+
+/// Checks that a step is taken back, in one call or in two, and that a refused step changes nothing.
+#[test]
+fn a_step_is_taken_back(rt: HostRuntime) -> Result<(), Fail> {
+    let mut machine = met(rt.alloc(), &[0])?;
+    assert!(rt; is_as_before(rt.alloc(), &mut machine)? && leaves_one_step(&mut machine));
     Ok(())
+}
+
+/// Checks that a session that keeps six choices takes six back.
+#[test]
+fn six_steps_are_taken_back(rt: HostRuntime) -> Result<(), Fail> {
+    let mut debugger = Debugger::new(rt.alloc(), met(rt.alloc(), &[0])?, 6)?;
+    assert!(rt; takes_six_back(rt.alloc(), &mut debugger)?);
+    Ok(())
+}
+
+/// Plays two choices, and takes back one. Returns whether no second one is taken back.
+fn takes_one_back(debugger: &mut Debugger) -> bool {
+    let run = Run {
+        choice: turn(1),
+        times: 1,
+    };
+    let are_played = debugger.step(turn(0)).is_ok()
+        && debugger.go(&[run]) == Stop::End(1)
+        && debugger.machine().steps() == 2;
+    are_played
+        && debugger.back().is_ok()
+        && debugger.back().is_err()
+        && debugger.machine().steps() == 1
 }
 
 /// Checks that a session that keeps one choice takes back one, and no second one, though it has played two.
 #[test]
 fn a_session_steps_on_and_back(rt: HostRuntime) -> Result<(), Fail> {
     let mut debugger = Debugger::new(rt.alloc(), met(rt.alloc(), &[])?, 1)?;
-    let run = Run {
-        choice: turn(1),
-        times: 1,
-    };
-    assert!(rt; debugger.step(turn(0)).is_ok());
-    assert!(rt; debugger.go(&[run]) == Stop::End(1));
-    assert!(rt; debugger.machine().steps() == 2);
-    assert!(rt; debugger.back().is_ok());
-    assert!(rt; debugger.back().is_err());
-    assert!(rt; debugger.machine().steps() == 1);
+    assert!(rt; takes_one_back(&mut debugger));
     Ok(())
 }
 

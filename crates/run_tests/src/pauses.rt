@@ -89,7 +89,7 @@ fn a_worker_waits_at_its_pause(rt: HostRuntime) -> Result<(), Fail> {
     Ok(())
 }
 
-/// Counts the meetings of a race.
+/// Counts the reports of meetings in a race.
 #[derive(Drop)]
 struct Meetings {
     count: AtomicU32,
@@ -102,7 +102,7 @@ impl Pace for Meetings {
     }
 }
 
-/// Checks that three threads that meet five times report 15 meetings.
+/// Checks that each of three threads reports each of their five meetings: 15 reports.
 #[test]
 fn each_meeting_is_reported(rt: HostRuntime) -> Result<(), Fail> {
     let meetings = Meetings {

@@ -48,8 +48,8 @@ static ROWS: [Row; 4] = [
     ),
 ];
 
-/// Returns whether the choice of `token` (`t0`, `x1`) is taken, or refused: `!` as not runnable, `#` by the limit of steps.
-/// With `~` it is taken, and its thread begins to wait.
+/// Returns whether the choice of `token` (`t0`, `x1`) is taken, or refused: `!` as not ready, `#` by the limit of steps. With
+/// `~` it is taken, and its thread begins to wait.
 fn takes(journaled: &mut Journaled, token: &str) -> bool {
     let [kind, digit, rest @ ..] = token.as_bytes() else {
         return false;
@@ -74,8 +74,9 @@ fn takes(journaled: &mut Journaled, token: &str) -> bool {
     }
 }
 
-/// Returns whether the choices of `row` are taken or refused as its tokens say, and then its schedule and its end are right.
-fn records(journaled: &mut Journaled, row: &Row) -> bool {
+/// Takes the choices of `row` in order. Returns whether each is taken or refused as its token says, and whether the record then
+/// has the row's schedule and ending.
+fn agrees(journaled: &mut Journaled, row: &Row) -> bool {
     let (_, _, tokens, schedule, ending) = *row;
     for token in tokens.split(' ') {
         if !takes(journaled, token) {
@@ -92,7 +93,7 @@ fn what_is_taken_is_recorded(rt: HostRuntime) -> Result<(), Fail> {
         let (text, limit, _, schedule, _) = *row;
         let program = program_of(rt.alloc(), text)?;
         let mut journaled = Journaled::new(rt.alloc(), program, limit.min(1_000_000_000))?;
-        assert!(rt; records(&mut journaled, row), "{schedule}");
+        assert!(rt; agrees(&mut journaled, row), "{schedule}");
     }
     Ok(())
 }

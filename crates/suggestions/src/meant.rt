@@ -32,7 +32,7 @@ fn begins_other_comment(word: &[u8]) -> bool {
 }
 
 /// Returns whether a word has digits and `-` alone, and isn't empty.
-fn is_number(word: &[u8]) -> bool {
+fn is_like_number(word: &[u8]) -> bool {
     !word.is_empty()
         && word
             .iter()
@@ -102,20 +102,20 @@ fn in_place_of_made(words: &[&[u8]]) -> Option<&'static str> {
         .next()
 }
 
-/// Returns advice if a line is one of Java's, and None for other lines. None, too, if it assigns the result of a method: then a
-/// caller shows the form of that method's row.
+/// Returns advice for a line written as in Java: with a word that has no row (`while`, `x++`), or with an assignment
+/// (`r0 = r0 + 1`). None for other lines. None, too, if it assigns the result of a method that has a row (`r0 = p.arrive()`):
+/// then `hint_at_word` shows the form of that row.
 fn helps_at_java_line(words: &[&[u8]], word: &[u8]) -> Option<&'static str> {
-    let assigned = word_assigned(words);
-    if assigned.is_some_and(|assigned| row_of(assigned).is_some()) {
-        return None;
-    }
     let helps = in_place_of_made(words).or(in_place_of(word));
-    if helps.is_some() || assigned.is_none() {
-        helps
-    } else if any_contains(words, b'+') {
-        Some("`ldi r1 1` puts 1 into r1, and then `add r0 r0 r1` adds it to r0")
-    } else {
-        Some("the instruction is first, then the register of its result, as in `ldi r0 5`")
+    match word_assigned(words) {
+        Some(value) if row_of(value).is_some() => None,
+        Some(_) if helps.is_none() && any_contains(words, b'+') => {
+            Some("`ldi r1 1` puts 1 into r1, and then `add r0 r0 r1` adds it to r0")
+        }
+        Some(_) if helps.is_none() => {
+            Some("the instruction is first, then the register of its result, as in `ldi r0 5`")
+        }
+        _ => helps,
     }
 }
 
@@ -219,7 +219,7 @@ fn helps_at_register(text: &[u8], words: &[&[u8]], word: &[u8]) -> Option<&'stat
     helps! {
         declares(text, b".cell", word) => "`lds r0 c` reads the cell c into r0, and `sts r0 c` writes r0 to it",
         any_contains(words, b'=') => AT_EQUALS,
-        is_number(word) => "put the number into a register first, as in `ldi r1 1`",
+        is_like_number(word) => "put the number into a register first, as in `ldi r1 1`",
         is_like_register(word) => "the registers are r0 to r7: a small r and one digit",
         else None
     }
@@ -234,9 +234,9 @@ fn helps_at_no_name(words: &[&[u8]], word: &[u8]) -> Option<&'static str> {
     helps! {
         word == b"{".as_slice() => "no braces: `try failed` names the label of the handler, and `endtry` ends it",
         word.ends_with(b":") && words.iter().skip(1).any(|operand| *operand == word) => AT_COLON,
-        is_number(word) && is_in_place_of_name => "a declaration begins with its name, as in `.phaser p 2`",
+        is_like_number(word) && is_in_place_of_name => "a declaration begins with its name, as in `.phaser p 2`",
         is_in_place_of_name => "a name has letters, digits and `_`, and begins with no digit, as in `.phaser p 2`",
-        is_number(word) => "a declaration begins with its name; an operand is a name, or # and a number: #1",
+        is_like_number(word) => "a declaration begins with its name; an operand is a name, or # and a number: #1",
         else None
     }
 }
@@ -251,7 +251,7 @@ fn helps_at_kind(
 ) -> Option<&'static str> {
     match kind {
         AsmFaultKind::OperandCount => helps_at_count(first, words),
-        AsmFaultKind::BadRegister if first == b"mov".as_slice() && is_number(word) => Some(
+        AsmFaultKind::BadRegister if first == b"mov".as_slice() && is_like_number(word) => Some(
             "`mov` copies a register: `ldi r0 5` puts a number into one",
         ),
         AsmFaultKind::BadRegister => helps_at_register(text, words, word),

@@ -13,8 +13,8 @@ use std::alloc::{AllocError, Global};
 /// How many parentheses may be open at once.
 const DEEPEST: usize = 16;
 
-/// Returns where the word is that makes a fault of a plan. For a `(` that isn't closed, it is the last one that isn't inside
-/// others. None if no word makes it.
+/// Returns the place, in its line, of the word that makes a fault of a plan. For `NotClosed` it is the outermost `(` that is
+/// never closed. None if no word makes the fault.
 pub fn place_in_plan(
     alloc: Global,
     plan: &[u8],
@@ -48,7 +48,10 @@ pub fn place_in_plan(
             }
         }
     }
-    Ok(opened)
+    Ok(match fault.kind {
+        PlanFaultKind::NotClosed => opened,
+        _ => None,
+    })
 }
 
 /// Returns advice if a plan's text isn't a plan: it is a trace, a program, or no ASCII. None if it may be one.

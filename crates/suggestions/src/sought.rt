@@ -38,8 +38,8 @@ fn are_sentence(means: &str, words: &[&str]) -> bool {
         .eq(words.iter().copied())
 }
 
-/// Returns the words that ask for the entry whose sentence a person copied from the terminal. A place and a kind before the
-/// sentence end with colons, and are left out. None if no entry has it.
+/// Returns the words that a person types after `explain` for the entry with this sentence, copied from an error message. The
+/// words before the sentence that end in a colon (a place, a kind) are skipped. None if no entry has the sentence.
 fn asked_by_sentence(words: &[&str]) -> Option<&'static [&'static str]> {
     let before = words
         .iter()

@@ -18,8 +18,9 @@ fn is_full_for(word: Word, count: u32) -> bool
     count > 65535 - word.parties() as u32
 }
 
-/// Returns whether `count` parties more would give the line's first phaser more than 65535. If it is empty, it registers one
-/// party with the next, where the same is asked, and so on up to the root.
+/// Returns whether registering `count` parties with the first phaser of `line` would give a phaser more than 65535. `line` has
+/// a phaser, its parent, and so on up to the root. A phaser without parties would register one party with its parent, too, so
+/// the parent is then asked about one.
 pub fn is_overfull_along(nodes: &[Node], line: &[u8], count: u32) -> bool
     requires stored { IsStored nodes.now }
     requires there { All (λ id. id < length nodes.now) line.now }
@@ -40,8 +41,8 @@ pub fn is_overfull_along(nodes: &[Node], line: &[u8], count: u32) -> bool
     }
 }
 
-/// Returns whether a registration with the line's first phaser would change a turned one: the first, or if that is empty,
-/// the next, and so on up to the root.
+/// Returns whether a registration with the first phaser of `line`, as above, would change one that is turned: all its parties
+/// have arrived, and its phase hasn't ended yet.
 pub fn is_turned_along(nodes: &[Node], line: &[u8], count: u32) -> bool
     requires stored { IsStored nodes.now }
     requires there { All (λ id. id < length nodes.now) line.now }

@@ -51,7 +51,7 @@ impl Line {
         &self.ids[..self.len as usize]
     }
 
-    /// Returns how many phasers the line has.
+    /// Returns how many phasers the line has: 1 for a root, and at most 8.
     pub fn len(&self) -> usize
         ensures { result ≡ length self.now }
     {

@@ -38,7 +38,7 @@ fn put_times(line: &mut LineEnd, times: u32)
     line.put_word(b"*");
 }
 
-/// Puts `x` before the line for an expiry, and `t` for a turn.
+/// Puts a choice's letter, `t` for a turn or `x` for an expiry, before the bytes of `line`, which is filled from its end.
 fn put_letter(line: &mut LineEnd, expiry: bool)
     requires { length line.old ≤ 42 }
     ensures { line.new ≡ letter_of expiry ∷ line.old }
@@ -60,6 +60,7 @@ pub fn push_token<K: Sink>(
     ensures token { OnOk result (Appends (K.written output.old) (K.written output.new) (token_of run ++ behind ∷ [])) }
     ensures failed { OnErr result (IsTrue (K.has_failed output.new)) }
 {
+    // from the end of the token to its beginning
     line.clear();
     line.put_word(&[behind]);
     put_times(line, run.times);

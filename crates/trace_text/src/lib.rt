@@ -12,8 +12,8 @@ pub mod line;
 pub mod line_end;
 
 // The lines of a state, and what is expected of them: the texts that say so, and whether a state is as expected.
+pub mod expectation;
 pub mod form;
-pub mod meeting;
 mod pieces;
 pub mod state;
 pub mod state_line;

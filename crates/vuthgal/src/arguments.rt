@@ -208,7 +208,8 @@ fn help_with(
 }
 
 impl NoCommand {
-    /// Reports why the arguments ask for nothing, or writes the help that they ask for. Returns the exit status.
+    /// Writes to standard error what is wrong with the arguments `words`, and advice, or that memory is missing. If they ask
+    /// for help or the version, it writes this text to standard output instead. Returns the exit status.
     pub fn report(&self, rt: &HostRuntime, words: &[String]) -> u8 {
         let text = match self {
             NoCommand::Memory => Err(AllocError),
@@ -216,7 +217,9 @@ impl NoCommand {
             NoCommand::Words(error) => format!(in rt.alloc(); "{error}"),
         };
         match (text, self) {
+            // (`use_stderr` is false for help and the version)
             (Ok(text), NoCommand::Words(error)) if error.use_stderr() => {
+                // `clap` writes a wrong word in single quotes: this is the text between the first two.
                 let wrong = text.as_str().split('\'').nth(1).unwrap_or("");
                 let help = help_with(rt, error.kind(), words, wrong).unwrap_or(None);
                 push_without_blank_lines(rt, text.as_str(), help.is_some());

@@ -147,6 +147,23 @@ fn greet(report: &Report<'_>, program: &Program<'_>) -> Result<(), Reported>
     Ok(())
 }
 
+/// Carries out commands after the choices of a plan.
+fn session_after_plan(
+    report: &Report<'_>,
+    file: ProgramFile<'_>,
+    program: Program<'_>,
+    plan: PlanFile<'_>,
+    is_guided: bool,
+) -> Result<Done, Reported> {
+    let planned = planned(report, file, &program, plan)?;
+    let runs = Some(planned.runs.as_slice());
+    if is_guided {
+        session_of_person(report, file, program, runs)
+    } else {
+        session(report, file, program.image, runs, &mut commands(report)?)
+    }
+}
+
 /// Carries out the commands on standard input on a file's program, after these choices. A person at a terminal is guided.
 pub fn debug(report: &Report<'_>, name: &str, steps: Steps<'_>) -> Result<Done, Reported> {
     let (bytes, steps) = opened(report, Some(name), steps)?;
@@ -165,13 +182,7 @@ pub fn debug(report: &Report<'_>, name: &str, steps: Steps<'_>) -> Result<Done, 
         OpenSteps::Named(name, trace) => session_at(report, file, program.image, name, trace),
         OpenSteps::Plan(name, plan) => {
             let bytes = plan.as_slice();
-            let planned = planned(report, file, &program, PlanFile { name, bytes })?;
-            let runs = Some(planned.runs.as_slice());
-            if is_guided {
-                session_of_person(report, file, program, runs)
-            } else {
-                session(report, file, program.image, runs, &mut commands(report)?)
-            }
+            session_after_plan(report, file, program, PlanFile { name, bytes }, is_guided)
         }
     }
 }

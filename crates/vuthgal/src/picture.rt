@@ -52,6 +52,30 @@ fn write_picture<P: Picture>(
     }
 }
 
+/// Writes the picture of a program under the schedule that a plan stands for. A person is told, too, if the plan was stopped.
+fn picture_of_plan<P: Picture>(
+    report: &Report<'_>,
+    picture: &P,
+    file: ProgramFile<'_>,
+    program: Program<'_>,
+    plan: PlanFile<'_>,
+) -> Result<Done, Reported> {
+    let planned = played(report, file, &program, plan)?;
+    if planned.stopped {
+        push_stopped(report);
+    }
+    let Ok(schedule) = write_schedule(report.alloc(), planned.runs.as_slice()) else {
+        return Err(report.fault(Fault::Memory));
+    };
+    let choices = Choices::planned(plan.name, schedule.as_bytes());
+    let done = write_picture(report, picture, file, program, choices)?;
+    // A picture that is refused has its own help.
+    if planned.stopped {
+        explain_stopped(report, plan);
+    }
+    Ok(done)
+}
+
 /// Writes the picture of the program in a file, under the choices that `steps` name.
 fn picture<P: Picture>(
     report: &Report<'_>,
@@ -83,21 +107,7 @@ fn picture<P: Picture>(
         }
         OpenSteps::Plan(name, plan) => {
             let bytes = plan.as_slice();
-            let written = PlanFile { name, bytes };
-            let planned = played(report, file, &program, written)?;
-            if planned.stopped {
-                push_stopped(report);
-            }
-            let Ok(schedule) = write_schedule(report.alloc(), planned.runs.as_slice()) else {
-                return Err(report.fault(Fault::Memory));
-            };
-            let choices = Choices::planned(name, schedule.as_bytes());
-            let done = write_picture(report, picture, file, program, choices)?;
-            // A picture that is refused has its own help.
-            if planned.stopped {
-                explain_stopped(report, written);
-            }
-            Ok(done)
+            picture_of_plan(report, picture, file, program, PlanFile { name, bytes })
         }
     }
 }

@@ -2,8 +2,8 @@
 ghost use Rattle.std.specs.Prelude.{◌≡◌};
 ghost use Rattle.vuthgal_c.specs.Expecting.{expectation_status};
 
+use trace_text::expectation::is_met;
 use trace_text::form::is_expectation;
-use trace_text::meeting::is_met;
 
 /// Returns 0 if `state`, a state's text, is as the text of an expectation says, 1 if it isn't, or 3 if that is no expectation.
 #[unsafe(no_mangle)]

@@ -274,8 +274,10 @@ fn push_hint<K: Sink>(alloc: Global, mistake: &Mistake, output: &mut K) {
     }
 }
 
-/// Looks for a mistake in the program, or in `input`. If there is one (status 3), writes the line that helps, sets `place`, and
-/// fails with the reason. In any other case it writes nothing, and `place` is no place.
+/// Looks for the first mistake in the program in `file`, or in its plan or schedule in `input`, as `kind` says. If it finds one
+/// (the reason's status is 3), it writes the line that helps to `output`, sets `place`, and fails with the reason. It also
+/// fails if it is out of memory (4) or a text is too long (5). Then, and if there is no mistake, it writes nothing, and `place`
+/// is no place.
 fn find_mistake<K: Sink>(
     alloc: Global,
     kind: Kind,

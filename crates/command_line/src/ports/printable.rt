@@ -82,7 +82,7 @@ impl<W: Write> Write for Printable<W> {
         self.writer.write(&piece[..count])
     }
 
-    /// Flushes the writer below.
+    /// Flushes the inner writer: this one keeps no bytes back.
     fn flush(&mut self) -> io::Result<()> {
         self.writer.flush()
     }

@@ -38,7 +38,8 @@ pub struct Watched<S> {
     of_line: u64,
 }
 
-/// How many bytes are counted at once: so few that a byte can count their lines, which is why many are compared at once.
+/// How many bytes `lines_in_piece` counts at a time: fewer than 256, so that its counter can be a `u8`. With so small a counter
+/// the compiler compares many bytes in one instruction.
 const PIECE: usize = 128;
 
 /// Returns how many lines end in at most 255 bytes.
@@ -53,7 +54,7 @@ fn lines_in_piece(bytes: &[u8]) -> u8
     lines
 }
 
-/// Returns how many lines end in these bytes.
+/// Returns how many lines end in these bytes: how many LFs they have.
 pub fn lines_in(bytes: &[u8]) -> u64
     ensures { result ≡ count_by (λ byte. byte == 10) bytes.now }
 {

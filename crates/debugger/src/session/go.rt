@@ -143,7 +143,7 @@ impl Debugger {
     fn stands_at_break(&self, thread: u8) -> bool
         ensures { result ≡ is_at_break self.now.breaks (thread_at (scene_of self.now.machine.scene) thread) }
     {
-        if !self.marks.are_there() {
+        if !self.marks.were_ever_set() {
             return false;
         }
         if thread as usize >= self.machine().thread_count() {

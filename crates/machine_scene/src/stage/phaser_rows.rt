@@ -18,7 +18,8 @@ use packed_phaser::Policy;
 use thread_state::{Event, Mark, Thread, What};
 use tier_tree::{Arrived, PhaserId, Registered};
 
-/// Begins to wait for the end of this phase. If the wait isn't endless, an interrupt throws 3, and a time of 0 or less 5.
+/// Begins to wait for the end of this phase, with this patience. A wait that isn't endless throws 3 (InterruptedException) if
+/// the thread is interrupted. Otherwise a timed wait throws 5 (TimeoutException) if its time is 0 or less.
 fn wait_with(thread: &mut Thread, patience: Patience, phase: i32) -> What
     ensures { record { thread = thread.new; what = result } ≡ turn_of_patience patience phase thread.old }
 {

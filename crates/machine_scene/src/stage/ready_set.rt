@@ -212,7 +212,7 @@ impl Stage {
         if is_local(row) {
             self.look_ahead(program, t);
         } else if concerns_others(event) {
-            self.ready = self.all_looked(program);
+            self.ready = self.ready_sets(program);
         } else if matches!(event.what, What::Waits) {
             self.leave_out(t);
         } else {
@@ -249,7 +249,7 @@ impl Stage {
 
     /// Returns the sets with the bits of all threads computed from the scene.
     #[inline(never)]
-    pub(super) fn all_looked(&self, program: &Loaded) -> ReadySet
+    pub(super) fn ready_sets(&self, program: &Loaded) -> ReadySet
         requires sound { IsSound program.now most_after (scene_of self.now) }
         ensures { AreReady program.now result (scene_of self.now) }
     {
@@ -265,7 +265,7 @@ impl Stage {
 
     /// Returns the sets `before`. If the row is `intr`, the bits of the thread that it interrupts are computed again.
     #[inline(always)]
-    fn interrupted_looked(&self, program: &Loaded, before: ReadySet, row: Row) -> ReadySet
+    fn with_interrupted(&self, program: &Loaded, before: ReadySet, row: Row) -> ReadySet
         requires sound { IsSound program.now most_after (scene_of self.now) }
         requires named { IsNamed (counts_in self.now) row }
         ensures { AreLooked program.now (λ u. interrupts u row) before result (scene_of self.now) }
@@ -278,7 +278,7 @@ impl Stage {
 
     /// Returns the sets after a step of thread `t`: its bits are computed again, and those of the thread that it interrupted.
     #[inline(always)]
-    fn few_looked(&self, program: &Loaded, before: ReadySet, row: Row, t: usize) -> ReadySet
+    fn with_few(&self, program: &Loaded, before: ReadySet, row: Row, t: usize) -> ReadySet
         requires sound { IsSound program.now most_after (scene_of self.now) }
         requires thread { t < length self.now.threads }
         requires named { IsNamed (counts_in self.now) row }
@@ -286,7 +286,7 @@ impl Stage {
         requires others { AreOthersReady program.now t row before (scene_of self.now) }
         ensures { AreReady program.now result (scene_of self.now) }
     {
-        let rest = self.interrupted_looked(program, before, row);
+        let rest = self.with_interrupted(program, before, row);
         self.looked(program, rest, t)
     }
 
@@ -309,9 +309,9 @@ impl Stage {
         ensures { AreReady program.now result (scene_of self.now) }
     {
         if changes_all(row, event) || changes_tree(row) && before.registering != 0 {
-            self.all_looked(program)
+            self.ready_sets(program)
         } else {
-            self.few_looked(program, before, row, t)
+            self.with_few(program, before, row, t)
         }
     }
 

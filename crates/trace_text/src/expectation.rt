@@ -43,7 +43,8 @@ fn have_ended(state: &[u8]) -> bool
     says(state, b"state", b" all") && !has_died(state)
 }
 
-/// Returns whether `state`, the text of a state, is as the expectation `text` says, as `ended`, `t0 ended` or `c3 0`.
+/// Returns whether `state`, the text of a state, meets the expectation `text`. That is a word for how a run ends, for example
+/// `ended`, or the name of a line and words of it, for example `t0 ended` or `c3 0`.
 pub fn is_met(state: &[u8], text: &[u8]) -> bool
     ensures { result ≡ is_met state.now text.now }
 {

@@ -1,6 +1,6 @@
 use Rattle.machine_scene.specs.Scene.{scene_of}
 use Rattle.machine_scene.proofs.ReadySets.{AreAllLooked}
-use Rattle.machine_scene.proofs.stage.Stage.all_looked.Given as goal
+use Rattle.machine_scene.proofs.stage.Stage.ready_sets.Given as goal
 
 -- the threads so far are looked at
 abbrev pub invariant-loop-u : goal.invariant-loop-u
