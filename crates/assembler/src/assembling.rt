@@ -59,6 +59,7 @@ pub fn assemble_placed(alloc: Global, text: &[u8]) -> Result<Image, PlacedFault>
         Ok(read) => read,
         Err(fault) => return Err(fault),
     };
+    // The line to report if memory runs out from here on: the last, or 1 if the text is empty.
     image_of(alloc, &draft, text, lines.max(1))
 }
 

@@ -25,7 +25,7 @@ pub struct Place {
     pub number: u16,
 }
 
-/// How many objects of each kind there are.
+/// How many rows, and how many objects of each kind, there are.
 #[derive(Clone, Copy)]
 pub struct Counts {
     pub rows: u16,
@@ -144,7 +144,7 @@ fn code_with(has_code: bool, line: &KeptLine<'_>) -> bool
     has_code || line.is_code()
 }
 
-/// Returns what the name in `line` refers to: the next row or object of its kind. Its number is how many `counts` has so far.
+/// Returns what the name in `line` refers to: the next row or object of its kind. Its number is the present count of that kind.
 fn place_behind(counts: &Counts, line: &KeptLine<'_>) -> Place
     ensures { let kind = kind_named (statement_kept line.now) in
         result ≡ record { kind = kind; number = counted counts.now kind } }
@@ -194,7 +194,7 @@ pub fn number_there(kind: OperandKind, place: Option<Place>) -> Option<u16>
 }
 
 impl<'a> Draft<'a> {
-    /// Makes a draft without lines. `hash` is the hash of the names of its text.
+    /// Makes a draft without lines. `hash` is what hashes the names of its text.
     pub fn new(alloc: Global, hash: NameHash) -> Draft<'a>
         ensures { result ≡ [] }
     {
@@ -278,7 +278,7 @@ impl<'a> Draft<'a> {
         number_there(kind, self.place_named(name))
     }
 
-    /// Returns the number in a reference, unchecked, or that of what it names. `None`: nothing of this kind has the name.
+    /// Returns the number in a reference, unchecked, or the number of what it names. `None`: nothing of this kind has the name.
     pub fn referent(&self, kind: OperandKind, reference: &Reference<&'a [u8]>) -> Option<u16>
         ensures { result ≡ referent self.now kind (reference_seen reference.now) }
     {

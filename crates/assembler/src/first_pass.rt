@@ -130,6 +130,7 @@ fn read_line<'a>(
     ensures lines { IfOk result (λ after. lines_of text.now ≡ first_line text.now ∷ lines_of after.now) }
     ensures shorter { IfOk result (λ after. length after.now < length text.now) }
 {
+    // The place 0: the fault is of no word, but of the line or a byte. `placed` finds the byte of a `BadByte`.
     let after = read_at(0, put_line(words, text))?;
     add_words(draft, number, words)?;
     Ok(after)

@@ -12,7 +12,7 @@ use line_reader::symbolic_thread::SymbolicThread;
 use std::alloc::{AllocError, Global};
 
 /// A line that says something, with its number from 1, as it is stored until its names are looked up. It takes 64 bytes,
-/// because a text may have 65,535 rows. The parts of phasers and barriers, which are few, are stored elsewhere.
+/// because a text may have 65,535 rows. The parts of phasers and barriers, which are few, are in a `Box`.
 #[derive(Drop)]
 pub enum KeptLine<'a> {
     Phaser(u64, Box<SymbolicPhaser<&'a [u8]>>),
@@ -85,7 +85,7 @@ impl<'a> KeptLine<'a> {
         }
     }
 
-    /// Returns whether it is a label or a row. No directive may follow such a line.
+    /// Returns whether the line is a label or a row. No directive may follow such a line.
     pub fn is_code(&self) -> bool
         ensures { result ≡ is_code (statement_kept self.now) }
     {

@@ -13,7 +13,7 @@ fn makes(line: &KeptLine<'_>, kind: OperandKind) -> bool {
     }
 }
 
-/// Returns the number of the line among these that has the row, or declares the object, of this number from 0. `None`: fewer.
+/// Returns the number of the line that has row `number`, from 0, or declares object `number` of this kind. `None`: none does.
 fn line_among(lines: &[KeptLine<'_>], kind: OperandKind, number: u64) -> Option<u64> {
     let mut left = number;
     for line in lines {
@@ -27,8 +27,8 @@ fn line_among(lines: &[KeptLine<'_>], kind: OperandKind, number: u64) -> Option<
     None
 }
 
-/// Returns the number, from 1, of the line that has the row, or declares the object, of this number, from 0. `None`: there are
-/// fewer, or the text has a fault. A message about a program that can't be loaded uses it to show the line.
+/// Returns the number, from 1, of the line that has row `number`, from 0, or declares object `number` of this kind. `None`: no
+/// line does, the text has a fault, or out of memory. A message about a program that can't be loaded shows this line.
 pub fn line_that_makes(alloc: Global, text: &[u8], kind: OperandKind, number: u64) -> Option<u64> {
     match lines_read(alloc, text) {
         Ok((draft, _)) => line_among(draft.lines(), kind, number),

@@ -16,7 +16,7 @@ use line_reader::reference::Reference;
 use line_reader::symbolic_phaser::SymbolicPolicy;
 use line_reader::words::{before_comment, place_of_forbidden};
 
-/// A name that nothing of the required kind has, and the kind of what has it, if there is something.
+/// The kind that an unknown name should be of, and the kind of what has this name. `given` is `None` if nothing has it.
 #[derive(Clone, Copy, PartialEq, Eq)]
 pub struct UnknownName {
     pub wanted: OperandKind,
@@ -27,9 +27,9 @@ pub struct UnknownName {
 #[derive(Clone, Copy, PartialEq, Eq)]
 pub struct PlacedFault {
     pub fault: AsmFault,
-    /// The word that makes the fault, or the byte for `BadByte`. `None` if the line is too long, or out of memory.
+    /// The word that makes the fault, or the byte for `BadByte`. `None` for `LongLine` and `Memory`.
     pub at: Option<WordPlace>,
-    /// For `UnknownName`, which name.
+    /// For `UnknownName`, the kind that is wanted, and the kind that has the name. `None` for any other fault.
     pub unknown: Option<UnknownName>,
 }
 

@@ -25,8 +25,8 @@ fn is_new(draft: &Draft, name: Option<&[u8]>) -> bool
     }
 }
 
-/// Reads the directive that `word` begins, after the lines in `draft`. It is a fault if one of these is a label or a row, or if
-/// there is no room: this fault is at `word`. It is also one if the name isn't new: this fault is at the name.
+/// Reads the directive that `word` begins, after the lines in `draft`. `word` has the fault `MisplacedDirective` if one of
+/// these is a label or a row, and `TooMany` if there is no room. The name has the fault `NameTwice` if it isn't new.
 #[tactic(auto, unfolding(crate::specs::Reading::directive_behind))]
 pub fn directive_behind<'a>(
     draft: &Draft<'a>,
@@ -68,7 +68,7 @@ pub fn row_behind<'a>(
     Ok(row)
 }
 
-/// Reads what follows a label in the line of this number: nothing, or a row. A directive there is `MisplacedDirective`.
+/// Reads what follows a label in the line of this number: nothing, or a row. A directive is `MisplacedDirective`.
 #[tactic(auto, unfolding(crate::specs::Reading::labelled_behind))]
 fn labelled_behind<'a>(
     draft: &Draft<'a>,

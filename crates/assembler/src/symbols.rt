@@ -102,7 +102,7 @@ impl<'a> Symbols<'a> {
         self.rows.as_slice()
     }
 
-    /// Returns the name of the row or the object of this kind and number. `None`: it has none. For a row it is its first label.
+    /// Returns the name of the row or the object of this kind and number: for a row, its first label. `None`: it has no name.
     pub fn name_of(&self, kind: OperandKind, number: u32) -> Option<&'a [u8]>
         ensures { option_map name_seen result ≡ name_of kind number self.now }
     {

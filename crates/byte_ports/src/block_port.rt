@@ -11,7 +11,7 @@ use std::alloc::{AllocError, Global};
 use std::io::Write;
 use std::marker::Model;
 
-/// How many bytes a block has: few, since a run of a few choices also clears them all.
+/// How many bytes a block has: few, since `new` sets them all to 0 even for a run of a few choices.
 const BLOCK: usize = 16_384;
 
 /// A sink that collects bytes in a block, and passes whole blocks on to another sink, so that most calls only copy their bytes.

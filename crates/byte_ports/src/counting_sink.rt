@@ -9,7 +9,7 @@ use crate::sink::Sink;
 use std::alloc::Global;
 use std::marker::Model;
 
-/// Keeps the first bytes, as many as there may be and there is memory for, counts all, and never fails.
+/// Counts all bytes, and keeps the first ones: at most `most`, and no more than there is memory for. It never fails.
 #[derive(Drop)]
 pub struct CountingSink {
     kept: Vec<u8>,
@@ -55,7 +55,7 @@ impl CountingSink {
         self.count
     }
 
-    /// Returns whether it has kept all that came, or the first `room` bytes of it. False: it was out of memory, or keeps fewer.
+    /// Returns whether it has kept all that came, or the first `room` bytes of it. False: memory ran out, or `most` is less.
     pub fn has_kept(&self, room: usize) -> bool
         ensures { IsTrue result ↔ (min (length self.now.written) room ≤ length self.now.kept) }
     {
@@ -63,8 +63,8 @@ impl CountingSink {
     }
 }
 
-/// Appends as many of `bytes` as fit below `most`, if all `count` bytes before are kept. If memory is refused, it keeps none of
-/// them, and ignores the refusal: the sink goes on counting, and `has_kept` says that bytes are missing.
+/// Appends as many of `bytes` as fit below `most`, if all `count` bytes that came before are kept. If memory is refused, it
+/// keeps none of them, and ignores the refusal: the sink goes on counting, and `has_kept` says that bytes are missing.
 fn keep(kept: &mut Vec<u8>, most: usize, count: usize, bytes: &[u8])
     ensures { (came : List ℕ) → AreFirst kept.old.items came → count ≡ min (length came) most_counted
         → AreFirst kept.new.items (came ++ bytes.now) }

@@ -31,7 +31,7 @@ impl Model for MemorySink {
 }
 
 impl MemorySink {
-    /// Makes a sink for `room` bytes, all allocated now. `fail_at` is the number of the call that fails, from 0, if any does.
+    /// Makes a sink for `room` bytes, all allocated now. `fail_at` is the number of the call that fails, from 0 (`None`: none).
     pub fn new(alloc: Global, room: usize, fail_at: Option<u32>) -> Result<MemorySink, AllocError>
         ensures { IfOk result (λ sink. sink ≡
             record { written = []; room = room; fail_at = fail_at; failed = false }) }
@@ -72,6 +72,7 @@ impl Sink for MemorySink {
             self.failed = true;
             return Err(Failed);
         }
+        // This can't fail: the capacity for `room` bytes is allocated.
         self.written.extend_from_slice(bytes).unwrap();
         self.fail_at = after_a_call(self.fail_at);
         Ok(())

@@ -12,7 +12,7 @@ pub trait Source {
     // Whether a call has failed.
     ghost has_failed: { Self → Bool };
 
-    // How often it was read if it counts that, and otherwise 0.
+    // How often the source was read, if it counts its reads, and otherwise 0.
     ghost reads: { Self → ℕ };
 
     /// Puts the next bytes at the start of `buffer`, and returns how many, like `InputStream.read(byte[])`. At the end it

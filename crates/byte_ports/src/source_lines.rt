@@ -31,15 +31,15 @@ pub enum LineEnded {
     TooLong,
 }
 
-/// The lines of a source, each returned where it is in a block. A piece of the source may end anywhere; the rest of it is kept
-/// for the next line.
+/// The lines of a source, each returned where it is in a block. A piece that was read may end inside a line. What follows a
+/// line in it is kept for the next one.
 #[derive(Drop)]
 pub struct SourceLines {
     block: Vec<u8>,
     /// Where the last line begins and ends.
     start: usize,
     stop: usize,
-    /// Where what is held begins and ends.
+    /// Where the bytes that are read and not yet returned begin and end.
     at: usize,
     end: usize,
     reads: u64,
@@ -152,7 +152,7 @@ impl SourceLines {
         &self.block.as_slice()[..self.end][self.at..]
     }
 
-    /// Makes the next `size` bytes the line that was read last, and goes on after `count` bytes: the line and its end.
+    /// Makes the next `size` bytes the line that was read last, and goes on after `count` bytes: the line and its LF, if any.
     #[inline(always)]
     fn take_line(&mut self, size: usize, count: usize)
         requires size { size ≤ count }
@@ -166,7 +166,7 @@ impl SourceLines {
         self.at += count;
     }
 
-    /// Skips the next `count` bytes of what is already read: lines that the caller has looked at there.
+    /// Skips the next `count` bytes of `held`: lines that the caller has already looked at there.
     #[inline(always)]
     pub fn skip(&mut self, count: usize)
         requires { count ≤ length self.old.held }

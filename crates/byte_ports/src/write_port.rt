@@ -34,9 +34,9 @@ impl<W: Write> WritePort<W> {
         }
     }
 
-    /// Flushes the writer, like `OutputStream.flush`, or again if a signal interrupts it, up to `MOST_TRIES` times in all.
-    /// A program calls it once, after its last `push`. If it fails, bytes of an earlier `push` may not be written. It is only
-    /// tested that it flushes: the standard library's contracts can't tell a flush from nothing.
+    /// Flushes the writer, like `OutputStream.flush`, or again if a signal interrupts it, up to `MOST_TRIES` times in all. A
+    /// program calls it once, after its last `push`. If it fails, bytes of an earlier `push` may not be written. That it
+    /// flushes is only tested, not proved: the standard library's contracts can't tell a flush from nothing.
     pub fn finish(&mut self) -> Result<(), Failed>
         ensures failed { FailsForGood self.old.failed self.new.failed result }
         ensures bytes { Keeps (W.contents self.old.inner) (W.contents self.new.inner) }

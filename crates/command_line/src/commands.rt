@@ -29,10 +29,10 @@ pub enum Rule {
     Once,
     Often,
     Needed,
-    /// With this option.
+    /// Once, and only together with this option.
     With(&'static str),
     OftenWith(&'static str),
-    /// In place of these arguments.
+    /// Once, and not together with these arguments.
     Instead(&'static [&'static str]),
     /// This is the value if it isn't given.
     Default(&'static str),
@@ -314,7 +314,7 @@ impl Subcommand {
     }
 }
 
-/// Returns the option `--explain WHEN` of the program and of each command. The last one counts.
+/// Returns the option `--explain WHEN` of the program and of each command. If it is given several times, the last one counts.
 fn explain<'a>(alloc: Global) -> Result<Arg<'a>, AllocError> {
     Arg::new(alloc, "explain")
         .long("explain")

@@ -10,7 +10,7 @@ use clap::{ArgMatches, Command, Error};
 use std::alloc::{AllocError, Global};
 use trace_text::form::is_expectation;
 
-/// What a command line asks for. A file has the name that was given, and none is standard input. Numbers are in the ranges of
+/// What a command line asks for. A file is the name that was given, or `None` for standard input. Numbers are in the ranges of
 /// `IsInRange`.
 #[derive(Drop)]
 pub enum Request<'a> {
@@ -85,14 +85,14 @@ pub enum Steps<'a> {
     PlanFile(&'a str),
 }
 
-/// Seeds from one on: 1 to 100,000 numbers up to 4,294,967,295.
+/// Seeds that follow one another: 1 to 100,000 numbers up to 4,294,967,295.
 #[derive(Clone, Copy)]
 pub struct Seeds {
     pub first: u32,
     pub last: u32,
 }
 
-/// Orders by seeds: each of at most so many choices, 1 to 1,000,000, where that is said; and how each run has to end.
+/// Orders by seeds: each of at most `limit` choices, 1 to 1,000,000, if that is given; and how each run has to end.
 #[derive(Drop)]
 pub struct Orders<'a> {
     pub seeds: Seeds,
@@ -121,7 +121,7 @@ impl When {
     }
 }
 
-/// Why words that the table takes ask for nothing.
+/// Why a command line that `clap` accepts is refused.
 #[derive(Clone, Copy)]
 enum Refusal {
     Memory,
@@ -152,7 +152,8 @@ fn word_given<'a>(matches: &ArgMatches<'a>, place: &str) -> Option<&'a str>
     matches.get_str(place)
 }
 
-/// Returns the word of a required argument. `clap` has refused a command line without it, so it is never left out here.
+/// Returns the word of an argument, or an empty one if the command has no such argument. `clap` has refused a command line that
+/// leaves it out.
 fn word<'a>(matches: &ArgMatches<'a>, place: &str) -> &'a str
     ensures { result.now ≡ word_of place.now (rows_in matches.now) }
 {
@@ -191,7 +192,8 @@ fn number(text: &str, least: u32, most: u32) -> Option<u32>
     }
 }
 
-/// Returns the number of an option, or None if it is left out. `clap` has refused what isn't from `least` to `most`.
+/// Returns the number of an option, or None if it is left out. `clap` has refused what isn't from `least` to `most`, but not a
+/// sign, or more than ten digits.
 fn number_given(
     matches: &ArgMatches<'_>,
     option: &str,
@@ -228,7 +230,7 @@ pub fn spaced(alloc: Global, text: &str) -> Result<Vec<u8>, AllocError> {
     Ok(spaced)
 }
 
-/// Returns the texts of all `--expect STATE`, with any blanks between their words; or a refusal if one is no STATE.
+/// Returns the texts of all `--expect STATE`, with their blanks as they were given; or a refusal if one is no STATE.
 fn expected<'a>(alloc: Global, matches: &ArgMatches<'a>) -> Result<Vec<&'a str>, Refusal>
     ensures { IfOk result (AreWords (codes "expect") (rows_in matches.now)) }
 {
@@ -343,7 +345,8 @@ fn run<'a>(
     })
 }
 
-/// Returns the request of the command of this name, one of those that `clap` knows. The last of them is `explain`.
+/// Returns the request of the command of this name, one of those that `clap` knows: any name that isn't listed here is
+/// `explain`. `file` is empty for a command that has no FILE, and isn't used there.
 fn request_by<'a>(
     alloc: Global,
     command: &str,
@@ -394,7 +397,7 @@ fn request_by<'a>(
     }
 }
 
-/// Returns the request of the command, or without one that of a run of standard input. `--expect` before a command is refused.
+/// Returns the request of the command. Without a command it is a run of standard input. `--expect` before a command is refused.
 fn request_of<'a>(alloc: Global, matches: &ArgMatches<'a>) -> Result<Request<'a>, Refusal>
     ensures range { IfOk result IsInRange }
     ensures asked { IfOk result (Asks (rows_in matches.now) (subcommand_rows_of matches.now)) }
@@ -427,7 +430,7 @@ fn parsed<'a>(
     }
 }
 
-/// Returns the error of arguments of which one isn't text.
+/// Returns the error that is reported if one of the arguments isn't UTF-8.
 pub fn no_text(alloc: Global, version: &str) -> Error {
     let mut program = match program(alloc, version) {
         Ok(program) => program,

@@ -225,7 +225,7 @@ you can ask.
 
 Example: vuthgal explain refused asm 2 5";
 
-/// Returns the long help of a command.
+/// Returns the long help of a command. Any name that isn't listed here is `explain`.
 pub fn of(command: &str) -> &'static str {
     match command {
         "asm" => ASM,

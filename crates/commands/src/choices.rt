@@ -10,8 +10,8 @@ use trace_compare::writing::{WritingFault, write_choices};
 use workbench::fault::{Fault, push_counted_line};
 
 /// Writes the schedule of the trace in `trace` to `output`, as one line: its choices up to its state, with repeated choices
-/// joined. Returns whether it is a trace. If it isn't, the choices before the first wrong line are written, and after them the
-/// line `not a trace LINE`. With `Memory` nothing is read. After `Read` and `Write` a part of the schedule may be written.
+/// joined. Returns whether `trace` is a trace. If it isn't, the choices before the first wrong line are written, and after them
+/// the line `not a trace LINE`. With `Memory` nothing is read. After `Read` and `Write` a part of the schedule may be written.
 pub fn choices<S: Source, K: Sink>(
     alloc: Global,
     trace: &mut S,

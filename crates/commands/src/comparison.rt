@@ -13,8 +13,8 @@ use workbench::compare::push_verdict;
 use workbench::fault::Fault;
 
 /// Compares a trace with an image's run, and writes the line of the verdict. After `differs LINE` it also writes the lines
-/// `trace ..` and `run ..`, with only the word if there is no such line, and after `not a trace LINE` the line `trace ..`, and
-/// what a line has to be.
+/// `trace ..` and `run ..`. After `not a trace LINE` it writes the line `trace ..`, and what a trace's line has to be. If there
+/// is no such line, only the word `trace` or `run` is written.
 pub fn show_comparison<S: Source, K: Sink>(
     alloc: Global,
     image: Image,

@@ -1,4 +1,4 @@
-//! In what the states differ in which several runs ended. Most of them have one word, as `all`; a person is told what is behind it.
+//! How the states differ in which several runs ended. Most of them have the same word, such as `all`, so a person needs more.
 
 use crate::outcomes::{Outcome, Outcomes};
 use byte_ports::{Failed, Sink};
@@ -13,7 +13,7 @@ fn word(line: &[u8], number: usize) -> &[u8] {
     line.split(|byte| *byte == b' ').nth(number).unwrap_or(&[])
 }
 
-/// Returns what a thread's line says of its output, from the word `out` on, or nothing if it has none.
+/// Returns what a thread's line says of its output, from the word `out` on, or nothing if there is no such word.
 fn output_of(line: &[u8]) -> &[u8] {
     match line
         .windows(4)
@@ -36,6 +36,7 @@ fn name_of<'a>(names: &[&'a [u8]], line: &'a [u8]) -> &'a [u8] {
     let subject = &line[..length_before(b' ', line)];
     match subject {
         [b't', digits @ ..] => {
+            // If this is no number, it has no name: there is none at `usize::MAX`.
             let number = str::from_utf8(digits).unwrap_or("").parse::<usize>();
             names
                 .get(number.unwrap_or(usize::MAX))
@@ -54,8 +55,9 @@ fn push_way<E: Sink>(errors: &mut E, is_first: &mut bool, way: &[u8]) -> Result<
 }
 
 /// Writes how a thread's line differs from its line in the other state, `first`: in its status, its output and whether it is
-/// interrupted, or else in its row, its registers or its stack.
+/// interrupted. If these are equal, says that its row, or its registers or stack differ.
 fn push_thread<E: Sink>(errors: &mut E, line: &[u8], first: &[u8]) -> Result<(), Failed> {
+    // Words 1 to 3 of a thread's line: its row, its status, and 1 if it is interrupted, or else 0.
     let mut is_first = true;
     if word(line, 2) != word(first, 2) {
         push_way(errors, &mut is_first, word(line, 2))?;
@@ -86,7 +88,7 @@ fn push_thread<E: Sink>(errors: &mut E, line: &[u8], first: &[u8]) -> Result<(),
     })
 }
 
-/// Writes how a line differs from `first`, the other state's line about the same: `None` for a cell that is 0 there.
+/// Writes how a line differs from `first`, the other state's line about the same object, or `None` for a cell that is 0 there.
 fn push_line<E: Sink>(
     errors: &mut E,
     names: &[&[u8]],
@@ -100,7 +102,8 @@ fn push_line<E: Sink>(
     }
 }
 
-/// Writes how a state differs from another one, `first`: each line that differs, and each cell that is 0 only in this state.
+/// Writes how a state differs from another one, `first`: each line after the first one (`state ..`) that differs, and each cell
+/// that is 0 only in this state.
 fn push_state<E: Sink>(
     errors: &mut E,
     names: &[&[u8]],

@@ -11,7 +11,7 @@ use thread_machine::Machine;
 use thread_runner::Ending;
 use trace_text::state::state_text;
 
-/// The state that a run ended in: its text without the counts of choices and steps.
+/// The state that a run ended in: its text without the counts of choices and steps, which differ between runs.
 #[derive(Drop)]
 pub struct EndState {
     pub text: Vec<u8>,
@@ -43,7 +43,7 @@ impl Hash for EndState {
     }
 }
 
-/// Returns `all`, `stuck` or `live`, the word for a run that ended so.
+/// Returns the word for how a run ended: `all`, `stuck` or `live`.
 pub fn word_of(ending: Ending) -> &'static [u8]
     ensures { result.now ≡ ending_word ending }
 {
@@ -58,7 +58,8 @@ fn behind_first_line(text: &[u8]) -> &[u8]
     &text[end..]
 }
 
-/// Returns the text by which end states are compared: `state` and `word`, and the lines of `state` after the first.
+/// Returns the text by which end states are compared: a line of the word `state` and `word`, and then the lines of the text
+/// `state` after its first.
 fn text_with(alloc: Global, word: &[u8], state: &[u8]) -> Result<Vec<u8>, AllocError>
     ensures { IfOk result (λ text. text.items ≡ codes "state " ++ (word.now ++ (10 ∷ behind_first_line state.now))) }
 {

@@ -1,4 +1,4 @@
-// As much of a schedule as a picture needs: nothing behind its fault, or behind one choice too many.
+// As much of a schedule as a picture needs: nothing after its first fault, or after one choice too many.
 ghost use Rattle.std.specs.Prelude.{◌≡◌, ◌≢◌, ◌⊎◌, ◌≤◌, ◌<◌, ◌+◌, ◌++◌, ℕ, List, [], ◌∷◌, Err, IsTrue, false, IfErr, IfOk, length, take};
 ghost use Rattle.commands.specs.Picture.{ShowsNone, most_of};
 ghost use Rattle.schedule_reader.specs.Schedule.{choices_of};
@@ -87,7 +87,7 @@ impl Front {
     }
 }
 
-/// Returns `choices` and the number of choices of the first of these runs, if there is one: a byte ends at most one run.
+/// Returns `choices` plus the number of choices of the first of these runs, if there is one: a byte ends at most one run.
 fn with_first(choices: u64, runs: &[Run]) -> u64
     ensures { result ≤ choices + length (choices_of runs.now) }
 {
@@ -97,8 +97,9 @@ fn with_first(choices: u64, runs: &[Run]) -> u64
     }
 }
 
-/// Reads a schedule for a picture: to its end, or only up to a fault or to the first choice beyond `most`, without waiting for
-/// more. Then it fails with that fault, with `TooLong`, or with `Read` if there are more than 16,777,216 bytes.
+/// Reads a schedule for a picture to its end. At a fault, or after the run with the first choice beyond `most`, it fails at
+/// once, without waiting for more: with that fault, or with `TooLong`. It fails with `Read` if there are more than 16,777,216
+/// bytes.
 pub(crate) fn read_enough<S: Source>(
     alloc: Global,
     source: &mut S,

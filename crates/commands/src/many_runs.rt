@@ -27,13 +27,13 @@ pub struct Asked<'a> {
     /// The most steps of each run, 1 to 1,000,000,000.
     pub limit: u32,
     pub pauses: Pauses,
-    /// What is expected of the state at the end of each run: texts as in `trace_text`.
+    /// What is expected of the state at the end of each run: texts such as `ended` or `t0 ended` (`trace_text`).
     pub expected: &'a [Vec<u8>],
 }
 
 /// Plays an image's program on real threads as often as asked. Writes a line for each state that a run ended in, the most
-/// frequent first: how often one did, `all`, `stuck` or `live`, with `+died` if a thread died, and the schedule of the first
-/// that did. Nothing is written before all runs are over. The threads of each run pass `gate` after their pauses.
+/// frequent first. The line has the number of such runs, `all`, `stuck` or `live`, with `+died` if a thread died, and the first
+/// such run's schedule. Nothing is written before all runs are over. The threads of each run pass `gate` after their pauses.
 pub fn report_runs<R: Threads + Wait + Sync, G: Pausing + Sync, K: Sink>(
     rt: &R,
     alloc: Global,
@@ -89,7 +89,8 @@ fn outcomes_of<R: Threads + Wait + Sync, G: Pausing + Sync>(
     }
 }
 
-/// Writes the lines of all outcomes in one piece. Returns `AsAsked` if each is as `expected`, and otherwise `Unlike`.
+/// Writes the lines of all outcomes in one piece, with thread numbers for names (`None`). Returns `AsAsked` if each is as
+/// `expected`, and otherwise `Unlike`.
 fn push_outcomes<K: Sink>(
     alloc: Global,
     expected: &[Vec<u8>],

@@ -14,7 +14,8 @@ use schedule_reader::{Run, write_schedule};
 use std::alloc::{AllocError, Global};
 use thread_machine::Choice;
 
-/// Returns a choice by its thread's name, as `ann`, or `xann` for an expiry. Without a name it is empty, or only `x`.
+/// Returns a choice by its thread's name, as `ann`, or `xann` for an expiry. For a thread without a name the result is empty,
+/// or only `x`.
 #[tactic(auto, using(crate::proofs::Naming::name_at))]
 fn name_word(alloc: Global, names: &[&[u8]], choice: Choice) -> Result<Vec<u8>, AllocError>
     ensures { IfOk result (λ word. word.items ≡ name_word (map name_seen names.now) choice) }
@@ -76,7 +77,8 @@ fn is_only(alloc: Global, names: &[&[u8]], text: &[u8], choice: Choice) -> Resul
     Ok(is_once(choice, first))
 }
 
-/// Returns a choice by name if a plan reads that as this choice, and otherwise by number, as `x0` if a thread is called `xann`.
+/// Returns a choice by its thread's name, if a plan reads the name as this choice, and otherwise by number. So an expiry of
+/// `ann` is `x0` if another thread is called `xann`.
 fn choice_word(alloc: Global, names: &[&[u8]], choice: Choice) -> Result<Vec<u8>, AllocError>
     requires { length names.now ≤ 64 }
     ensures { IfOk result (λ word. word.items ≡ choice_word (map name_seen names.now) choice) }

@@ -13,19 +13,19 @@ use thread_runner::Ending;
 /// What is reported about the runs that ended in one state.
 #[derive(Drop)]
 pub struct Outcome {
-    /// How many runs ended so.
+    /// How many runs ended in this state.
     pub times: u32,
     pub ending: Ending,
-    /// The seed of the first, if its order has one.
+    /// The seed of the first of these runs, if its order has one.
     pub seed: Option<u64>,
-    /// The schedule of the first.
+    /// The schedule of the first of these runs.
     pub schedule: String,
 }
 
 /// The states that runs ended in, and what is reported about each.
 pub type Outcomes = IndexMap<EndState, Outcome>;
 
-/// Counts one more run that ended in this state. Of the first one, seed and schedule are kept.
+/// Counts one more run that ended in this state. The seed and the schedule of the first such run are kept.
 pub fn add(
     outcomes: &mut Outcomes,
     state: EndState,

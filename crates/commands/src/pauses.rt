@@ -1,4 +1,4 @@
-//! The pauses of several live runs: their workers pause before some of their turns, so that orders happen that are rare otherwise.
+//! The pauses of several live runs: their workers pause before some turns. So orders happen that are rare otherwise.
 //!
 //! A worker is the real thread that plays a thread of the program (`thread_runner`). Before each turn it passes a gate, and
 //! there it may pause. A seed determines the pauses of each thread in each run. The same seed gives the same pauses. The
@@ -42,7 +42,7 @@ impl Pauses {
     }
 }
 
-/// What a worker passes before each of its turns: a pause, and a gate behind it.
+/// What a worker passes before each of its turns: a pause, and then a gate.
 pub trait Pausing {
     /// Makes a pause, before turn `step` of a thread, and then passes the gate.
     fn pass_after(&self, pause: Pause, thread: u8, step: u32);

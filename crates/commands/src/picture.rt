@@ -26,7 +26,7 @@ pub trait Picture {
         ensures { result ≡ kind };
 
     /// Returns the whole picture of a program's run under a schedule, and the choice of a thread that doesn't exist, if one
-    /// ended the run. Fails if the program or the schedule is refused, or without memory.
+    /// ended the run. Fails if the program or the schedule is refused, or if out of memory.
     fn of(&self, alloc: Global, program: Program<'_>, schedule: &[u8]) -> Result<Shown, Fault>
         requires { length schedule.now ≤ most_bytes }
         ensures picture { IfOk result (λ shown. is_picture self.now program.entry schedule.now shown.bytes.items) }

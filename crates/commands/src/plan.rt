@@ -100,8 +100,8 @@ fn plan_words(alloc: Global, plan: &[u8], names: &[&[u8]]) -> Result<Words, Unpl
     }
 }
 
-/// Plays a plan of at most `most` choices on a loaded program whose threads have these names. Returns its runs of choices, and
-/// the machine after them. Fails only for a fault of the plan, or without memory.
+/// Plays a plan, up to `most` choices, on a loaded program whose threads have these names. Returns its runs of choices, and the
+/// machine after them. Fails only for a fault of the plan, or if out of memory.
 pub(crate) fn planned_on(
     alloc: Global,
     program: Loaded,
@@ -128,7 +128,7 @@ pub(crate) fn planned_on(
     }
 }
 
-/// Plays a plan of at most 1,000,000 choices on a copy of a program. Returns its runs of choices, and the machine after them.
+/// Plays a plan, up to 1,000,000 choices, on a copy of a program. Returns its runs of choices, and the machine after them.
 pub fn planned_in(alloc: Global, program: &Program<'_>, plan: &[u8]) -> Result<Planned, Unplanned>
     ensures planned { IfOk result (λ planned. (progress : Progress) × (ComesOfPlan program.now 1000000 plan.now progress
         × Shows planned progress)) }
@@ -144,7 +144,8 @@ pub fn planned_in(alloc: Global, program: &Program<'_>, plan: &[u8]) -> Result<P
     planned_on(alloc, loaded, names.as_slice(), plan, MOST_CHOICES)
 }
 
-/// Writes a plan's choices as a line, with `names` if given, or nothing without memory. Returns whether the plan was cut off.
+/// Writes a plan's choices as a line, with `names` if given. If out of memory, it writes nothing. Returns whether the plan was
+/// cut off at its limit of choices.
 fn push_planned<K: Sink>(
     alloc: Global,
     planned: &Planned,
@@ -169,7 +170,7 @@ fn push_planned<K: Sink>(
     Ok(planned.stopped)
 }
 
-/// Plays a plan of at most `most` choices on a program, and uses it up. Returns its runs of choices, and the threads' names.
+/// Plays a plan, up to `most` choices, on a program, which it consumes. Returns its runs of choices, and the threads' names.
 fn planned_of<'a>(
     alloc: Global,
     program: Program<'a>,
@@ -211,6 +212,7 @@ pub fn plan<K: Sink>(
     ensures write { result ≡ Err (why.Fault Fault.Write) → IsTrue (K.has_failed output.new) }
 {
     let (planned, _names) = planned_of(alloc, program, plan, most)?;
+    // `None`: with numbers, not names.
     push_planned(alloc, &planned, None, output)
 }
 

@@ -18,7 +18,7 @@ use trace_text::state_line::has_died;
 use workbench::done::Done;
 use workbench::fault::Fault;
 
-/// The most bytes that a text has of which there can be another one in memory.
+/// The most bytes of a text that `read_schedule` accepts by its contract.
 const LONGEST: usize = 9_223_372_036_854_775_806;
 
 /// Returns `+died` if a thread of this state has died, or else nothing.
@@ -32,7 +32,7 @@ fn died_mark(state: &EndState) -> &'static [u8]
     }
 }
 
-/// Appends the seed as a plan has it, as `?7 `, if there is one.
+/// Appends the seed as a plan has it, for example `?7 `, if there is one.
 #[tactic(auto, using(crate::proofs::Reports::text_steps))]
 fn push_seed(text: &mut Vec<u8>, seed: Option<u64>) -> Result<(), AllocError>
     ensures { OnOk result (text.new.items ≡ text.old.items ++ seed_mark seed) }
@@ -45,7 +45,8 @@ fn push_seed(text: &mut Vec<u8>, seed: Option<u64>) -> Result<(), AllocError>
     Ok(())
 }
 
-/// Appends a schedule: as a plan with `names`, or as it is if there are none or it has a fault. It fails if it is too long.
+/// Appends a schedule: as a plan with `names`, or unchanged if `names` is `None` or the schedule has a fault. Fails if out of
+/// memory, or if the schedule is longer than `LONGEST`.
 fn push_schedule(
     alloc: Global,
     text: &mut Vec<u8>,
@@ -85,7 +86,7 @@ fn push_order(
     text.extend_from_slice(b"\n")
 }
 
-/// Appends an outcome's line, as `12 stuck t0 t1*2`: how many runs ended so, the state's word, and the first one's schedule.
+/// Appends an outcome's line, as `12 stuck t0 t1*2`: how many runs ended so, the state's word, and the first run's schedule.
 #[tactic(auto, using(crate::proofs::Reports::text_steps))]
 fn push_line(
     alloc: Global,
@@ -147,14 +148,14 @@ pub fn push_report<K: Sink>(
     }
 }
 
-/// Returns whether a state is as all these texts expect.
+/// Returns whether a state meets all of these expectations.
 fn is_as_expected(expected: &[Vec<u8>], state: &EndState) -> bool
     ensures { result ≡ are_met state.now.text.items expected.now }
 {
     are_met(state.text.as_slice(), expected)
 }
 
-/// Returns whether every state that a run ended in is as all these texts expect: so if no texts are given.
+/// Returns whether every state that a run ended in meets all of these expectations. True if none are given.
 fn are_as_expected(expected: &[Vec<u8>], outcomes: &Outcomes) -> bool
     ensures { result ≡ are_as_expected expected.now outcomes.now.entries }
 {

@@ -11,8 +11,8 @@ use std::alloc::{AllocError, Global};
 use workbench::Program;
 use workbench::fault::Fault;
 
-/// Writes the rows of a program, a line each: the row's number, and then, for a text, its line's number and that line, or,
-/// for an image, its canonical text. It doesn't check whether the program can be loaded.
+/// Writes a line for each row of a program. The line begins with the row's number. For a text, the number of the row's line and
+/// that line follow. For an image, the row's canonical text follows. This doesn't check whether the program can be loaded.
 pub fn list_rows<K: Sink>(alloc: Global, program: &Program<'_>, output: &mut K) -> Result<(), Fault>
     requires { IsNamedProgram program.now.bytes.now program.now.image program.now.names }
     ensures { ListsRows program.now.bytes.now result (K.written output.old) (K.written output.new) (K.has_failed output.new) }

@@ -44,7 +44,7 @@ fn run_once<R: Threads + Wait + Sync, G: Gate + Sync>(
     }
 }
 
-/// Returns the same schedule with repeated choices joined, as `t0*3` for `t0 t0 t0`. It fails only without memory.
+/// Returns the same schedule with repeated choices joined, as `t0*3` for `t0 t0 t0`. Fails only if out of memory.
 fn shown(alloc: Global, schedule: &[u8]) -> Result<String, Fault>
     requires { length schedule.now ≤ 4000000000 }
     ensures fault { OnOk result ((finished_schedule schedule.now).fault ≡ None) }
@@ -87,8 +87,8 @@ fn add_run(alloc: Global, run: &LiveRun, outcomes: &mut Outcomes) -> Result<(), 
     }
 }
 
-/// Plays a program `count` times, and counts the states in which the runs ended. The threads of each run make the pauses for
-/// its number, and after each pass `gate`.
+/// Plays a program `count` times, and counts the states in which the runs ended. Before each turn, a thread makes the pause
+/// that `pauses` gives for the run's number, and then passes `gate`.
 pub fn add_runs<R: Threads + Wait + Sync, G: Pausing + Sync>(
     rt: &R,
     alloc: Global,

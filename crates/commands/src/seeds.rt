@@ -40,7 +40,7 @@ pub struct Seeds<'a> {
     pub count: u32,
     /// The most choices of the order of a seed, 1 to 1,000,000, if that is given.
     pub limit: Option<u32>,
-    /// What is expected of the state that each run ends in: texts as `trace_text` has them.
+    /// What is expected of the state that each run ends in: texts such as `ended` or `t0 ended` (`trace_text`).
     pub expected: &'a [Vec<u8>],
     /// Whether schedules have the names of the threads in place of numbers.
     pub has_names: bool,
@@ -81,7 +81,7 @@ fn plan_by(alloc: Global, plan: &[u8], limit: Option<u32>, seed: u64) -> Result<
     Ok(text)
 }
 
-/// Returns how a machine's run ended if nothing more is played. `Limit` means it could go on.
+/// Returns how a machine's run ended if nothing more is played. `Limit` means that the machine could go on.
 fn ending_of(machine: &Machine) -> Ending
     ensures { standing_at result ≡ standing_of (world_of machine.now) }
 {
@@ -92,7 +92,7 @@ fn ending_of(machine: &Machine) -> Ending
     }
 }
 
-/// Returns the run of this seed if the state in which it ended isn't as all of `expected` say, or else `None`.
+/// Returns the run of this seed if the state in which it ended doesn't meet all of `expected`, or else `None`.
 #[tactic(auto, using(crate::proofs::Seeded::judged))]
 fn judged(
     alloc: Global,
@@ -283,8 +283,9 @@ fn tally_in<'a>(
 }
 
 /// Plays, for each seed, a plan and then choices by the seed on a program. Writes a line for each state that a run ended in,
-/// the most frequent first: how often one did, `all`, `stuck` or `live`, with `+died` if a thread died, and the seed and the
-/// schedule of the first that did. Returns these states, and the first run that ended differently than expected, if one did.
+/// the most frequent first. The line has the number of such runs, `all`, `stuck` or `live`, with `+died` if a thread died, and
+/// the first such run's seed and schedule. Returns these states, and the first run that ended differently than expected, if
+/// any.
 pub fn report_seeds<K: Sink>(
     alloc: Global,
     program: Program<'_>,

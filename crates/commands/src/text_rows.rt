@@ -65,7 +65,7 @@ fn push_text_rows(listing: &mut Vec<u8>, lines: &[&[u8]], numbers: &[u64]) -> Re
     Ok(())
 }
 
-/// Returns the listing of a text whose rows are in the lines of these numbers, from 1.
+/// Returns the listing of a text. Row n is in the text's line number `numbers[n]`, from 1.
 pub fn rows_in_text(alloc: Global, text: &[u8], numbers: &[u64]) -> Result<Vec<u8>, AllocError>
     ensures { IfOk result (λ listing. listing.items
         ≡ flat_map line_text (numbered (text_row_words (lines_of text.now)) 0 numbers.now)) }

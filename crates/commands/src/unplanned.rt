@@ -27,7 +27,7 @@ impl From<Fault> for Unplanned {
     }
 }
 
-/// Writes `refused plan LINE NUMBER`, or `memory` for a fault without a number.
+/// Writes `refused plan LINE NUMBER`, or `memory` if there is no number: only out of memory has none.
 fn push_plan_line<E: Sink>(errors: &mut E, line: u64, number: Option<u8>) -> Result<(), Failed>
     ensures bytes { OnOk result (Appends (E.written errors.old) (E.written errors.new)
         (plan_line line number)) }

@@ -28,7 +28,7 @@ fn differing(alloc: Global, trace: Option<&[u8]>, run: Option<&[u8]>) -> Result<
     Ok(text)
 }
 
-/// Returns the line `trace ..`, with only the word without a line, and one that says what a trace's line may be.
+/// Returns the line `trace ..`, or only its word if `trace` is `None`, and a line that says what a trace's line may be.
 fn not_a_trace(alloc: Global, trace: Option<&[u8]>) -> Result<Vec<u8>, AllocError>
     ensures { IfOk result (λ text. text.items ≡ line_behind (codes "trace") (option_map (λ l. l.now) trace.entry) ++ wanted) }
 {
@@ -40,7 +40,8 @@ fn not_a_trace(alloc: Global, trace: Option<&[u8]>) -> Result<Vec<u8>, AllocErro
     Ok(text)
 }
 
-/// Returns the lines that follow a verdict: none for `Same`, or else the trace's line and the run's, or what a line may be.
+/// Returns the lines that follow a verdict: none for `Same`. `Differs`: the trace's line and the run's. `NotATrace`: the
+/// trace's line, and what it may be.
 pub fn shown(alloc: Global, judged: &Judged) -> Result<Vec<u8>, AllocError>
     ensures { IfOk result (λ text. StandsBehind judged.now.told.verdict judged.now.trace judged.now.told.line text.items) }
 {

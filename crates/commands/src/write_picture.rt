@@ -18,8 +18,8 @@ use workbench::fault::Fault;
 use workbench::run_line::split_at_run;
 
 /// Writes the picture of a program under the schedule in `schedule` to `output`, once it is whole. Returns the choice of a
-/// thread that doesn't exist, with its place from 1, if one ended the run. It doesn't read past a fault, or past the first
-/// choice too many. With `to_end` it reads on after too many choices, and reports a fault among these, if there is one.
+/// thread that doesn't exist, with its number from 1, if one ended the run. It doesn't read past a fault, or past the first
+/// choice too many. With `to_end` it reads on after too many choices, and reports a fault after them, if there is one.
 pub fn make<P: Picture, S: Source, K: Sink>(
     alloc: Global,
     picture: &P,
@@ -41,6 +41,7 @@ pub fn make<P: Picture, S: Source, K: Sink>(
     ensures write { result ≡ Err Fault.Write → IsTrue (K.has_failed output.new) }
 {
     let kind = picture.kind();
+    // With `u64::MAX`, reading never ends at a choice too many. `write` still refuses too many choices.
     let most = if to_end { u64::MAX } else { most_of(kind) };
     match read_enough(alloc, schedule, kind, most) {
         Ok(choices) => write(alloc, picture, program, choices.as_slice(), output),
@@ -56,6 +57,7 @@ fn first_fault(alloc: Global, image: Image, fault: Fault) -> Fault
     ensures status { status_of result ≡ 3 → status_of fault ≡ 3 }
     ensures other { (result ≡ fault) ⊎ ((fault ≢ Fault.Read) × (result ≢ Fault.Read) × (result ≢ Fault.Write) × (result ≢ Fault.Spawn)) }
 {
+    // 3 is the status of a refusal. Any other fault, such as out of memory, is reported as it is.
     if fault.status() != 3 {
         return fault;
     }
@@ -80,7 +82,7 @@ pub fn parts_of(file: &[u8]) -> (&[u8], &[u8])
 }
 
 /// Makes the picture of a program's run under `schedule`, and then writes it. If it can't be made, nothing is written. A choice
-/// of a thread that doesn't exist ends the run, and is returned with its place in the schedule, from 1.
+/// of a thread that doesn't exist ends the run, and is returned with its number in the schedule, from 1.
 pub fn write<P: Picture, K: Sink>(
     alloc: Global,
     picture: &P,

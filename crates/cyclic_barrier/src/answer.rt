@@ -1,4 +1,4 @@
-/// The result of a call of `await`.
+/// The result of a call of `await` by a thread.
 #[derive(Clone, Copy, PartialEq, Eq)]
 pub enum Entered {
     /// It waits; this is its arrival index, parties - 1 for the first and never 0.

@@ -7,7 +7,7 @@ use itoa::write_digits;
 /// The most bytes of such a line.
 pub const ROOM: usize = 40;
 
-/// Puts a word before place `from` of a buffer, and returns the place of its first byte.
+/// Puts a word before index `from` of a buffer, and returns the index of its first byte.
 #[inline(always)]
 fn put_before(bytes: &mut [u8; ROOM], from: usize, word: &[u8]) -> usize
     requires from { from ≤ 40 }
@@ -20,7 +20,7 @@ fn put_before(bytes: &mut [u8; ROOM], from: usize, word: &[u8]) -> usize
     start
 }
 
-/// Puts `word`, a number and `end` at the end of a buffer, from the last one on, and returns where they begin.
+/// Puts `word`, a number and `end` at the end of a buffer, beginning with `end`. Returns the index of their first byte.
 #[inline(always)]
 pub fn put_number_line(bytes: &mut [u8; ROOM], word: &[u8], number: u64, end: &[u8]) -> usize
     requires { length word.now + length end.now ≤ 20 }

@@ -83,7 +83,7 @@ impl Debugger {
         }
     }
 
-    /// Returns a debugger of the same machine with the same breakpoints. It can't take back the choices before.
+    /// Returns a debugger of the same machine with the same breakpoints. The copy can't take back any choice made so far.
     pub fn copy(&self) -> Result<Debugger, AllocError>
         ensures { IfOk result (λ copy. copy ≡ record self.now { past = [] }) }
     {

@@ -53,8 +53,8 @@ impl Undos {
         Ok(Undos { kept })
     }
 
-    /// Plays one choice, and keeps what undoes it, which the step writes into its place in the ring: copying it costs half a
-    /// step. If the ring is full, what undoes the oldest is lost. If the choice is refused, what is kept stays.
+    /// Plays one choice. The step writes what undoes it directly into the ring: a copy would cost half as much as the step. If
+    /// the ring is full, what undoes the oldest choice is lost. If the choice is refused, what is kept stays.
     #[inline(always)]
     #[tactic(auto, using(crate::proofs::Rings::written_and_pushed))]
     pub fn play(&mut self, machine: &mut Machine, choice: Choice) -> Result<Event, StepFault>

@@ -30,7 +30,7 @@ fn is_like_plan(name: &str) -> bool {
         && (name.ends_with(".") || name.contains(' ') || name.contains('*') || name.contains('?'))
 }
 
-/// Returns advice if no file has this name: it is `-`, a page, a path of Windows or a plan, or near to a name; else None.
+/// Returns advice for a name that no file has: `-`, a page, a path of Windows, a plan, or one near to a file's. Else None.
 fn hint_at_name(rt: &HostRuntime, name: &str) -> Hint {
     let alloc = rt.alloc();
     let helps = match name {
@@ -98,7 +98,8 @@ pub fn fail_for_one_file(report: &Report<'_>, name: &str) -> Reported {
     report.fail_for(Fault::Write, name, reason, Ok(None))
 }
 
-/// Reports a fault of a command that read `input` and wrote `output`. A read that fails without a reason was too long.
+/// Reports a fault of a command that read `input` and wrote `output`. If a read failed without the system's reason, the input
+/// was too long.
 pub fn fail(report: &Report<'_>, input: &str, output: &str, fault: Fault) -> Reported {
     match (fault, report.reason.error()) {
         (Fault::Read, Some(error)) => {

@@ -20,7 +20,7 @@ pub struct Place<'a> {
     pub part: Option<WordPlace>,
 }
 
-/// Writes bytes of an input, each that is none of printable ASCII as `?`, and a tab as a blank.
+/// Writes bytes of an input: a tab or a CR as a blank, and each byte that isn't printable ASCII as `?`.
 pub fn push_shown<E: Sink>(errors: &mut E, bytes: &[u8]) -> Result<(), Failed> {
     for byte in bytes.iter() {
         match *byte {

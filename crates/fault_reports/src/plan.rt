@@ -62,7 +62,8 @@ fn is_without_count(word: &[u8]) -> bool {
     word.ends_with(b".") || word.starts_with(b"?")
 }
 
-/// Returns the line and the place of the only word that plays without an end. None if a word has a count, or two are endless.
+/// Returns the line and the place of the only word that plays without an end. None if a word has a count or begins with `(`, or
+/// if two words are endless.
 fn endless_word(alloc: Global, plan: &[u8]) -> Result<Option<(u64, WordPlace)>, AllocError> {
     let mut found = None;
     let mut number: u64 = 0;

@@ -30,7 +30,7 @@ use workbench::fault::Fault;
 /// The variable that says when a failure is explained, if the arguments don't.
 const VARIABLE: &str = "VUTHGAL_EXPLAIN";
 
-/// More bytes than any value has that is looked at.
+/// Room for the variable's value: more bytes than any of the three values that it may have.
 const ROOM: usize = 32;
 
 /// More bytes than a line has that the formats fix.
@@ -47,7 +47,7 @@ pub struct Reported {
 pub struct Report<'a> {
     pub rt: &'a HostRuntime,
     is_explained: bool,
-    /// Whether the arguments say so.
+    /// Whether the arguments say when a failure is explained.
     is_said: bool,
     /// The system's reason, if a read or a write failed.
     pub reason: Reason,
@@ -121,7 +121,8 @@ impl<'a> Report<'a> {
         }
     }
 
-    /// Reports why a command gave up: the file and the place in it, if known, and `hint`, or else the advice of its entry.
+    /// Reports why a command gave up: the file, unless its name is empty, and the place in it, if known; and `hint`, or else
+    /// the advice of its entry.
     pub fn fail(&self, why: Unplanned, file: &str, place: Option<Place<'_>>, hint: Hint) -> Reported
         ensures { result.status ≡ unplanned_status why }
     {
@@ -194,11 +195,12 @@ impl<'a> Report<'a> {
 }
 
 /// Returns the entry of `explain` for the fixed line of a failure; None if it has none. If memory has run out, no line is made:
-/// its entry is found by a word.
+/// the word `memory` finds the entry. `Spawn` has the same status, but another entry.
 fn entry_of(alloc: Global, why: Unplanned) -> Option<Entry> {
     let question = if why.status() == 4 && !matches!(why, Unplanned::Fault(Fault::Spawn)) {
         question_of(&tables(), &["memory"])
     } else {
+        // None: no write fails before the room is used up.
         let mut line = MemorySink::new(alloc, LONGEST_LINE, None).ok()?;
         why.tell(&mut line).ok()?;
         question_in_line(alloc, line.bytes()).ok()?

@@ -68,7 +68,7 @@ pub fn note_no_trace<S>(report: &Report<'_>, name: &str, watched: &Watched<S>, n
     );
 }
 
-/// Returns the number of the first line that no trace has there, or 0 if the beginning isn't kept any more.
+/// Returns the number of the first line that no trace has there. It is 1 if the beginning isn't kept, and 0 without memory.
 pub fn wrong_line<S>(alloc: Global, watched: &Watched<S>) -> u64 {
     let bytes = watched.whole().unwrap_or(&[]);
     match choices_in(alloc, &mut SliceSource::new(bytes)) {

@@ -1,8 +1,8 @@
 //! The commands of a person at a terminal.
 //!
 //! Before it waits for a line, it shows which threads can go on and at which row, with the names of the program. A line may
-//! have these names instead of numbers. A line may also be words of a plan, and an empty one repeats the command before it. Two
-//! words are answered here and aren't passed on: `help`, and `w`, which writes the choices that were played as a plan.
+//! have these names instead of numbers. A line may also be words of a plan, and an empty one repeats the command before it.
+//! `help` or `?`, and `w`, which writes the choices that were played as a plan, are answered here and aren't passed on.
 
 ghost use Rattle.std.specs.Prelude.{◌≡◌, ◌≤◌, ◌⊎◌, IfErr, IfOk, None, length};
 ghost use Rattle.workbench.specs.{declared.fault.Fault.Fault, Debug.HasNoEnd};
@@ -31,7 +31,7 @@ use workbench::fault::Fault;
 /// How many lines a person writes at most, and how many bytes.
 const MOST: u64 = 1_000_000_000;
 
-/// How many threads a program has at most.
+/// How many threads a program has at most. The bound cuts off no name: the proofs need it.
 const MOST_THREADS: usize = 64;
 
 const HELP: &[u8] = b"  s tN      one choice: thread N's turn; `s xN`: its timed wait expires
@@ -127,7 +127,9 @@ impl<'a, S: Source + Drop, K: Sink + Drop, E: Sink + Drop> Person<'a, S, K, E> {
         Ok(())
     }
 
-    /// Looks at what the last command did, before the next line. If the debugger doesn't know it, shows what it may have meant.
+    /// Ends the last command before the next line is read: keeps the choices that it played for `w`, and shows what its reply
+    /// doesn't. If the debugger answered `?`, shows what the person may have meant. At first, the last command is `Go` with the
+    /// choices before the session. `Print` is in the field only until `take` sets it.
     fn look(&mut self, debugger: &Debugger) -> Result<(), AllocError> {
         let command = replace(&mut self.command, Command::Print);
         if is_unknown(&command, debugger) {
@@ -172,7 +174,7 @@ impl<'a, S: Source + Drop, K: Sink + Drop, E: Sink + Drop> Person<'a, S, K, E> {
         }
     }
 
-    /// Puts the line `g TOKENS` in place of a plan that was typed: the debugger plays the choices that it makes from here.
+    /// Puts the line `g TOKENS` in place of a plan that was typed. TOKENS are the choices that the plan makes from now on.
     fn go(&mut self, debugger: &Debugger, words: &Words) -> Result<(), AllocError> {
         let machine = debugger.machine().copy(self.alloc)?;
         let planned = plan_runs_at(self.alloc, machine, &words.all())?;
@@ -184,7 +186,8 @@ impl<'a, S: Source + Drop, K: Sink + Drop, E: Sink + Drop> Person<'a, S, K, E> {
         Ok(())
     }
 
-    /// Finds out what the line asks for: a command, or else words of a plan. If that is `g`, it keeps a copy of the machine.
+    /// Finds out what the line asks for: a command, or else words of a plan. For `g` it keeps a copy of the machine, from which
+    /// the choices are shown later.
     fn take(&mut self, debugger: &Debugger) -> Result<(), AllocError> {
         self.command = command_of(self.alloc, self.line.as_slice())?;
         if matches!(&self.command, Command::Unknown) && !self.said.trim_ascii().is_empty() {
@@ -198,7 +201,7 @@ impl<'a, S: Source + Drop, K: Sink + Drop, E: Sink + Drop> Person<'a, S, K, E> {
         Ok(())
     }
 
-    /// Reads a line, in which numbers replace names. An empty one repeats the line before. Returns whether it has an LF.
+    /// Reads a line, and puts numbers for names. An empty one repeats the line before. Returns whether the line read has an LF.
     fn read(&mut self, debugger: &Debugger) -> Result<bool, Fault>
         ensures fault { IfErr result (λ fault. (fault ≡ Fault.Memory) ⊎ (fault ≡ Fault.Read)) }
     {
@@ -214,7 +217,7 @@ impl<'a, S: Source + Drop, K: Sink + Drop, E: Sink + Drop> Person<'a, S, K, E> {
         Ok(is_ended)
     }
 
-    /// Answers `help` and `w`. Returns true for any other line, which the debugger is to read.
+    /// Answers `help`, `?` and `w`. Returns true for any other line, which the debugger is to read.
     fn is_for_debugger(&mut self, debugger: &Debugger) -> Result<bool, AllocError> {
         match self.line.as_slice().trim_ascii() {
             b"help" | b"?" => note(self.notes.push(HELP)),
@@ -238,6 +241,7 @@ impl<'a, S: Source + Drop, K: Sink + Drop, E: Sink + Drop> Person<'a, S, K, E> {
             let machine = debugger.machine();
             note(push_may_go(self.alloc, &mut self.notes, &self.symbols, machine));
             let is_ended = self.read(debugger)?;
+            // At the end of the input nothing was typed: the last command isn't repeated.
             if !is_ended && self.said.is_empty() {
                 self.line.clear();
                 return Ok(false);
@@ -260,8 +264,8 @@ pub struct GuidedCommands<'a, S, K, E> {
 }
 
 impl<'a, S: Source + Drop, K: Sink + Drop, E: Sink + Drop> GuidedCommands<'a, S, K, E> {
-    /// Makes a source of commands from a person's lines, for a program with these names, after `runs` of choices, if given.
-    /// `output` gets schedules, and `notes` what is shown besides the replies.
+    /// Makes a source of commands from a person's lines, for a program with these names. If `runs` is given, its choices are
+    /// played before the first line. `output` gets schedules, and `notes` what is shown besides the replies.
     pub fn new(
         alloc: Global,
         symbols: Symbols<'a>,
@@ -301,7 +305,7 @@ impl<'a, S: Source + Drop, K: Sink + Drop, E: Sink + Drop> Companion
     ghost has_failed = { λ g. g.failed };
 
     /// Gives the debugger a person's next line, with numbers for names. Returns whether it has an LF. Subtracts its bytes from
-    /// `reads`, and fails with `Read` if they are more.
+    /// `reads`. Fails with `Read` if the line has more bytes than that.
     fn next_line(
         &mut self,
         debugger: &Debugger,

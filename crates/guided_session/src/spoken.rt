@@ -6,7 +6,7 @@ use itoa::Buffer;
 use line_reader::words::{is_blank, length_before};
 use std::alloc::{AllocError, Global};
 
-/// Returns the number of what has this kind and name, or `None`. For a label (`Target`) this is its row's number.
+/// Returns the number of the thing of this kind and name, or `None` without one. For a label (`Target`) it is the row's.
 fn number_called(symbols: &Symbols<'_>, kind: OperandKind, name: &[u8]) -> Option<u16> {
     for index in 0..symbols.len() {
         let symbol = symbols.get(index)?;
@@ -17,7 +17,8 @@ fn number_called(symbols: &Symbols<'_>, kind: OperandKind, name: &[u8]) -> Optio
     None
 }
 
-/// Returns the choice that a name stands for: `t` and the number for `ann`, or `x` and it for `xann`. `None`: it is no name.
+/// Returns the choice that a word stands for: `t` and a thread's number, its turn, if the word is its name (`ann`); `x` and the
+/// number, the expiry of its timed wait, if the word is `x` and its name (`xann`). `None`: the word is neither.
 fn choice_called(symbols: &Symbols<'_>, word: &[u8]) -> Option<(u8, u16)> {
     if let Some(thread) = number_called(symbols, OperandKind::Thread, word) {
         return Some((b't', thread));

@@ -52,6 +52,7 @@ fn helps_at_choices(word: &[u8], rest: &[u8]) -> Option<&'static str> {
 /// Returns what helps with a line by its first word: a command of another debugger, or one of this one that is used wrongly.
 fn helps_at_command(said: &[u8]) -> Option<&'static str> {
     let (word, rest) = first_and_rest(said);
+    // 27 is the byte of Escape, with which an arrow key's bytes begin.
     if said.contains(&27) {
         return Some(
             "such keys aren't read: Enter repeats the last command, `b` takes a choice back",

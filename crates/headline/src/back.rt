@@ -35,7 +35,7 @@ pub fn step_and_back(machine: &mut Machine, choice: Choice) -> Result<Event, Ste
     Ok(event)
 }
 
-/// Takes the last choice back, with the `undo` that `step` returned for it. So several can be taken back, the last first.
+/// Takes the last choice back, with the `undo` that `step` returned for it. Several can be taken back, in reverse order.
 pub fn take_back(machine: &mut Machine, undo: Undo)
     requires { CanUndo undo machine.old }
     ensures { machine.new ≡ undone undo machine.old }

@@ -36,7 +36,7 @@ pub fn arrivals_are_taken()
     ensures { ArrivalsAreTaken }
 {}
 
-/// A law: a phase ends only if `onAdvance` returns a result. A phaser is terminated only if this is true, or by force.
+/// A law: a phase ends only if `onAdvance` returns a result. A phaser is terminated only if this result is true, or by force.
 #[tactic(auto, using(crate::proofs::PhaseEnds::terminations_said))]
 pub fn terminations_are_said()
     ensures { TerminationsAreSaid }

@@ -20,7 +20,7 @@ pub fn step(machine: &mut Machine, choice: Choice) -> Result<Event, StepFault>
     machine.step(choice)
 }
 
-/// A law: a phaser's word is at most so many phases behind its root's as phases have ended (`is_forest` states it).
+/// A law: a phaser's word is at most so many phases behind its root's as phases have ended in its tree (`is_forest` states it).
 pub fn no_word_lags_far(machine: &Machine)
     ensures { IsNear machine.now.scene.phasers }
 {

@@ -6,7 +6,7 @@ use crate::row::Row;
 /// What a row acts on.
 #[derive(Clone, Copy)]
 pub enum Group {
-    /// Its own thread's registers and place; and `halt`.
+    /// Its own thread's registers and the number of that thread's next row. `halt` is here, too.
     Own,
     /// Its own thread's stack.
     Calls,

@@ -1,4 +1,4 @@
-//! The local rows: they use only the registers and the place of their thread.
+//! The local rows: they use only the registers of their thread and the number of its next row, `pc`.
 ghost use Rattle.std.specs.Prelude.{◌≡◌, ◌<◌, ◌+◌, ◌+ℤ◌, ◌-ℤ◌, IsTrue, None, min, if◌then◌else◌};
 ghost use Rattle.instruction_table.specs.LocalRows.{is_local_row, loads, local_of, wrapped};
 ghost use Rattle.instruction_table.specs.Registers.{value_in};
@@ -40,7 +40,7 @@ fn difference(registers: &Regs, left: Reg, right: Reg) -> i32
     registers.get(left).wrapping_sub(registers.get(right))
 }
 
-/// Puts a number into a register, and goes to the next row. Returns the number, never `None`, as the result of a row.
+/// Puts a number into a register, and goes to the next row. Returns the number, as `play_local` does for such a row.
 fn load(registers: &mut Regs, pc: &mut u16, into: Reg, value: i32) -> Option<i32>
     requires { pc.old < 65535 }
     ensures { record { registers = registers.new; pc = pc.new; written = result }

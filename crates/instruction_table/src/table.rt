@@ -68,7 +68,7 @@ fn shape_listed(listed: Listed) -> Shape
     }
 }
 
-/// For each slot the place of the entry whose word has it, or 255 if no word does. Each word has a slot of its own.
+/// For each slot, which `place_of` computes from a word, the place of the entry with that word, or 255 if no word has the slot.
 const PLACES: [u8; 128] = [
     255, 255, 255, 255, 255, 255, 255, 36, 255, 31, 255, 33, 13, 255, 255, 255, 255, 16, 255, 34,
     255, 27, 255, 255, 255, 2, 255, 6, 255, 255, 17, 14, 255, 255, 255, 22, 255, 23, 255, 255, 19,
@@ -112,7 +112,7 @@ fn opcode_there(entries: &[Listed], place: u8, word: &[u8]) -> Option<u8>
     }
 }
 
-/// Returns the opcode of the rows that begin with this word: 14 for `out`. `None` if it is no row's word, as `ou` or `OUT`.
+/// Returns the opcode of the rows that begin with this word: 14 for `out`. `None`: no row has it, for example `ou` or `OUT`.
 #[inline(always)]
 pub fn opcode_named(word: &[u8]) -> Option<u8>
     ensures opcode { result ≡ option_map (λ e. e.opcode) (entry_named table word.now) }
@@ -149,7 +149,7 @@ fn shape_at(entries: &[Listed], place: u8) -> Shape
     shape_listed(entries[usize::from(place)])
 }
 
-/// Returns how the rows that begin with this word are written. `None` if it is no row's word, as `ou` or `OUT`.
+/// Returns how the rows that begin with this word are written. `None`: no row has it, for example `ou` or `OUT`.
 pub fn shape_of(word: &[u8]) -> Option<Shape>
     ensures entry { option_map entry_of result ≡ entry_named table word.now }
 

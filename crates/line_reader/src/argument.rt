@@ -26,8 +26,8 @@ pub fn reference_argument<'a, 'w>(
     }
 }
 
-/// Reads this option and its argument, the name of a row or an object, or `#` and its number, at most `high`, if the option
-/// comes next. Otherwise returns `None` and all the words.
+/// Reads this option and its argument, if the option comes next. The argument is the name of a row or an object, or `#` and its
+/// number, at most `high`. If another word or none comes next, returns `None` and all the words.
 #[tactic(auto, unfolding(crate::specs::Reading::reference_option_at))]
 pub fn reference_option_at<'a, 'w>(
     option: &str,
@@ -60,7 +60,7 @@ pub fn phase_argument<'a, 'w>(words: &'w [&'a [u8]]) -> Result<(i32, &'w [&'a [u
     }
 }
 
-/// Checks that no word is left. Otherwise the first is `BadOption`: a fault's place is the count of the words from it on.
+/// Checks that no word is left. Otherwise the first one left is `BadOption`. Its place is how many words are left.
 pub fn end_at(words: &[&[u8]]) -> Result<(), WordFault>
     ensures { result ≡ end_at (map name_seen words.now) }
 {

@@ -13,7 +13,7 @@ pub enum AsmFaultKind {
     LongLine,
     /// No instruction and no directive has this word.
     UnknownWord,
-    /// Operands are missing, the argument of an option too, or there are too many.
+    /// Operands or the argument of an option are missing, or there are too many operands.
     OperandCount,
     /// Not `r0` to `r7`.
     BadRegister,
@@ -29,16 +29,16 @@ pub enum AsmFaultKind {
     NameTwice,
     /// A directive after the first label or instruction.
     MisplacedDirective,
-    /// A word that can't be there in a directive.
+    /// A word that can't be at this place of a directive.
     BadOption,
-    /// One more than there may be of its kind.
+    /// A row or an object beyond the most that a program may have of its kind.
     TooMany,
     /// Memory was refused.
     Memory,
 }
 
 impl AsmFaultKind {
-    /// Returns the number that the fault is reported with. `Memory` has none.
+    /// Returns the number that the fault is reported with. `None`: the fault is `Memory`, which has none.
     pub fn number(self) -> Option<u8>
         ensures { result ≡ asm_number self }
     {
@@ -68,7 +68,7 @@ pub struct AsmFault {
     pub kind: AsmFaultKind,
 }
 
-/// What is wrong with the words of a line, and how many of them are left there: the first of these is wrong.
+/// What is wrong with a word of a line, and where: `left` counts the words from the wrong one on to the end of the line.
 #[derive(Clone, Copy, PartialEq, Eq)]
 pub struct WordFault {
     pub kind: AsmFaultKind,
@@ -76,7 +76,7 @@ pub struct WordFault {
 }
 
 impl WordFault {
-    /// Returns the fault of a word. `left` counts the words of the line from this one on, at most 128.
+    /// Returns the fault of a word. `left` counts the words from this one on: at most 128, since a line has at most 256 bytes.
     #[inline(always)]
     pub fn at(left: usize, kind: AsmFaultKind) -> WordFault
         ensures { result ≡ fault_at left kind }

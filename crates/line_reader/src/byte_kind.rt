@@ -2,8 +2,8 @@
 ghost use Rattle.std.specs.Prelude.{◌≡◌};
 ghost use Rattle.line_reader.specs.{FirstLine.is_letter, Names.goes_on_name, Words.is_allowed};
 
-/// For each byte where it may be: 3 in a name, 2 in another word, 1 between words or in a comment, 0 in no line. It is asked
-/// for each byte of a text, mostly more than once, so the results are a table.
+/// For each byte where it may be: 3 in a name, 2 in another word, 1 between words or in a comment, 0 in no line. This is
+/// a table because each byte of a text is looked up, mostly more than once.
 const KINDS: [u8; 256] = [
     0, 0, 0, 0, 0, 0, 0, 0, 0, 1, 0, 0, 0, 1, 0, 0, 0, 0, 0, 0, 0, 0, 0, 0, 0, 0, 0, 0, 0, 0, 0, 0,
     1, 2, 2, 2, 2, 2, 2, 2, 2, 2, 2, 2, 2, 2, 2, 2, 3, 3, 3, 3, 3, 3, 3, 3, 3, 3, 2, 1, 2, 2, 2, 2,

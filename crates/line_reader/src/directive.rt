@@ -11,7 +11,7 @@ use crate::symbolic_phaser::phaser_at;
 use crate::symbolic_thread::thread_at;
 use crate::words::is_word;
 
-/// Returns whether a word is `.phaser`, `.barrier`, `.thread` or `.cell`. Few words begin with a dot.
+/// Returns whether a word is `.phaser`, `.barrier`, `.thread` or `.cell`. It tests the dot first: few words begin with one.
 #[inline(always)]
 pub fn is_directive(word: &[u8]) -> bool
     ensures { result ≡ is_directive word.now }

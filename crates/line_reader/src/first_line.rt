@@ -91,7 +91,7 @@ fn length_allowed(text: &[u8]) -> usize
     }
 }
 
-/// Returns whether a line ends at this place: there is LF, or nothing.
+/// Returns whether a line ends at this place: LF is there, or the text ends.
 #[inline(always)]
 fn ends_line(text: &[u8], place: usize) -> bool
     ensures { result ≡ is_line_end (slice_index_or text.now place 10) }
@@ -125,8 +125,8 @@ pub fn first_line(text: &[u8]) -> (&[u8], &[u8])
     (&text[..length], behind_end(text, length))
 }
 
-/// Replaces the list by the words of the text's first line, and returns the text after it. A byte that no line may have is
-/// `BadByte`, and a line of more than 256 bytes is `LongLine`. It looks at no byte after such a one.
+/// Replaces the list by the words of the text's first line, and returns the text after it. The fault is `BadByte` if the line
+/// has a byte that no line may have: no later byte is looked at. It is `LongLine` if the line has more than 256 bytes.
 #[inline(always)]
 #[tactic(auto, unfolding(crate::specs::Reading::line_words), using(crate::proofs::FirstLines::end_of, crate::proofs::FirstLines::end_at, crate::proofs::FirstLines::first_long, crate::proofs::FirstLines::lines_first, crate::proofs::FirstLines::shorter_after))]
 pub fn put_line<'a>(words: &mut Vec<&'a [u8]>, text: &'a [u8]) -> Result<&'a [u8], AsmFaultKind>
@@ -136,6 +136,7 @@ pub fn put_line<'a>(words: &mut Vec<&'a [u8]>, text: &'a [u8]) -> Result<&'a [u8
     ensures shorter { 0 < length text.now → IfOk result (λ after. length after.now < length text.now) }
     ensures fault { IfErr result (λ kind. (kind ≡ fault.Memory) ⊎ (line_words (first_line text.now) ≡ Err kind)) }
 {
+    // What follows the words: a comment, the line's end, or a byte that no line may have.
     let rest = put_words(words, text)?;
     let left = length_allowed(rest);
     if !ends_line(rest, left) {

@@ -9,7 +9,7 @@ use crate::number::number_at;
 use crate::reference::{Reference, reference_at};
 use instruction_table::{OperandKind, Reg, opcode_named, operands_of};
 
-/// What is at one of the four places of a row.
+/// One of the four operands of a row, as it is stored.
 #[derive(Clone, Copy)]
 pub enum KeptOperand {
     Absent,
@@ -22,7 +22,8 @@ pub enum KeptOperand {
     Named(OperandKind),
 }
 
-/// A row's opcode, and its operand that isn't a register. No row has two of them.
+/// A row's opcode, and its operand that isn't a register: a name, a number, or the number of an object or a row. No row has two
+/// such operands, so at most one of the three fields is in use.
 #[derive(Clone, Copy)]
 pub struct Held<'a> {
     pub name: &'a [u8],
@@ -72,7 +73,8 @@ fn register_at(word: &[u8]) -> Result<Reg, AsmFaultKind>
     }
 }
 
-/// Reads an operand of this kind, not a register. Its number or name goes into `held`, and the result says which it is.
+/// Reads an operand of this kind, not a register. Its number or name goes into `held`, and the result says which it is. The
+/// number of a row or an object is at most `u16::MAX` here. Whether there is such a row or object is checked later.
 #[inline(always)]
 #[tactic(auto, unfolding(crate::specs::Reading::operand_at))]
 fn other_at<'a>(
@@ -121,7 +123,7 @@ fn operand_at<'a>(
     }
 }
 
-/// Reads the operand at this place, from 0, of a row with operands of these `kinds`. It is `Absent` if the row has fewer.
+/// Reads the operand at this place, from 0, of a row with operands of these `kinds`. It is `Absent` if they are fewer.
 #[inline(always)]
 #[tactic(auto, using(crate::proofs::ByPlace::seen_there))]
 fn operand_there<'a>(
@@ -178,8 +180,8 @@ fn row_of_kinds<'a>(
     })
 }
 
-/// Reads a row: `word` begins it, or else is an `UnknownWord`, and `words` are its operands. If they are too few or too many,
-/// `word` has the fault `OperandCount`.
+/// Reads a row: `word` is its first word, and `words` are its operands. `word` has the fault `UnknownWord` if no row begins
+/// with it, and `OperandCount` if the operands are too few or too many.
 #[inline(always)]
 #[tactic(auto, unfolding(crate::specs::Reading::row_at))]
 pub fn row_at<'a>(word: &[u8], words: &[&'a [u8]]) -> Result<KeptRow<'a>, WordFault>

@@ -15,7 +15,8 @@ pub struct SymbolicBarrier<N> {
     pub action: Option<Reference<N>>,
 }
 
-/// Reads the words after `.barrier`: a name, the parties, and perhaps `action` with a row. Fewer than two are `OperandCount`.
+/// Reads the words after `.barrier`: a name, the parties, and perhaps `action` with a row. With fewer than two words `.barrier`
+/// has the fault `OperandCount`.
 #[tactic(auto, unfolding(crate::specs::Reading::barrier_at))]
 pub fn barrier_at<'a>(words: &[&'a [u8]]) -> Result<SymbolicBarrier<&'a [u8]>, WordFault>
     ensures { seen barrier_seen result ≡ barrier_at (map name_seen words.now) }

@@ -31,7 +31,7 @@ pub struct SymbolicPhaser<N> {
 /// The greatest number of a phaser.
 pub(crate) const LAST_PHASER: u16 = 63;
 
-/// Reads the option `phase`, if it comes next. Returns the phase, 0 without the option, and the words after it.
+/// Reads the option `phase`, if it comes next. Returns the phase (0 without the option), and the words after it.
 #[tactic(auto, unfolding(crate::specs::Reading::first_phase_at))]
 pub(crate) fn first_phase_at<'a, 'w>(
     words: &'w [&'a [u8]],
@@ -50,7 +50,7 @@ pub(crate) fn first_phase_at<'a, 'w>(
     }
 }
 
-/// Reads a policy, if one comes next. Returns it, `Default` if none comes, and the words after it.
+/// Reads a policy, if one comes next. Returns the policy (`Default` if none comes), and the words after it.
 #[tactic(auto, unfolding(crate::specs::Reading::policy_at))]
 pub(crate) fn policy_at<'a, 'w>(
     words: &'w [&'a [u8]],
@@ -99,8 +99,8 @@ fn phaser_with<'a>(
     })
 }
 
-/// Reads the words after `.phaser`: a name, the parties, and perhaps options. Fewer than two words are `OperandCount`. A fault
-/// counts the words that are left from its own on: `words.len()` is the name's place, and one more is that of `.phaser`.
+/// Reads the words after `.phaser`: a name, the parties, and perhaps options. Fewer than two words are `OperandCount`. The
+/// place of a fault counts the words from the wrong one on: `words.len()` is that of the name, and one more that of `.phaser`.
 #[tactic(auto, unfolding(crate::specs::Reading::phaser_at))]
 pub fn phaser_at<'a>(words: &[&'a [u8]]) -> Result<SymbolicPhaser<&'a [u8]>, WordFault>
     ensures { seen phaser_seen result ≡ phaser_at (map name_seen words.now) }

@@ -1,4 +1,4 @@
-//! Makes the barriers of an image.
+//! Makes the barriers of an image. The parameter `rows` is the number of the program's rows.
 ghost use Rattle.std.specs.Prelude.{◌≡◌, ◌≢◌, ◌≤◌, length, map, None, Some, IfOk, IfErr, OnOk};
 ghost use Rattle.loader.specs.Declarations.{new_barrier, action_row};
 ghost use Rattle.loader.specs.Fault.{action_fault, barrier_fault, earliest_in};
@@ -9,7 +9,7 @@ use cyclic_barrier::Barrier;
 use row_code::DeclaredBarrier;
 use std::alloc::{AllocError, Global};
 
-/// Returns the first row of the barrier's action, or 0 if it has none.
+/// Returns the first row of the barrier's action, or 0, which nobody uses, if it has none.
 fn action_row(barrier: &DeclaredBarrier) -> u16
     ensures { result ≡ action_row barrier.now }
 {
@@ -54,7 +54,7 @@ fn make(rows: usize, n: u8, barrier: DeclaredBarrier) -> Result<Barrier, LoadFau
     }
 }
 
-/// Makes the barriers in order, or returns the first fault. `rows` is the number of the program's rows.
+/// Makes the barriers in order, or returns the first fault.
 pub fn make_all(
     alloc: Global,
     rows: usize,

@@ -5,21 +5,21 @@ ghost use Rattle.loader.specs.{FaultNumber.load_number, declared.load_fault.Load
 use std::alloc::{AllocError, AllocFailed};
 use tier_tree::DeclareFault;
 
-/// What names a row that doesn't exist, by its number.
+/// Which object names a row that doesn't exist. The number is the object's own.
 #[derive(Clone, Copy, PartialEq, Eq)]
 pub enum Place {
     Row(u16),
     Thread(u8),
-    /// By its routine.
+    /// Its routine would begin at that row.
     Phaser(u8),
-    /// By its action.
+    /// Its action would begin at that row.
     Barrier(u8),
 }
 
 /// Why an image is refused: the first fault in the order in which `load` checks.
 #[derive(Clone, Copy, PartialEq, Eq)]
 pub enum LoadFault {
-    /// This place names a row that isn't there.
+    /// This object names a row that doesn't exist.
     Target(Place),
     /// The last row is none of `halt`, `jmp`, `ret` and `throw`: a thread could go on past it.
     FallsOff,

@@ -1,4 +1,5 @@
-//! Declares the phasers of an image in a forest.
+//! Declares the phasers of an image in a forest, which holds all phasers of a program. The parameter `rows` is the number of
+//! the program's rows.
 ghost use Rattle.std.specs.Prelude.{◌≡◌, ◌≢◌, ◌+◌, ◌<◌, length, map, None, Some, IfOk, IfErr, OnOk};
 ghost use Rattle.tier_tree.specs.{Answer.KeepsEnds, Declaration.AreAllFresh, Declaration.is_root, Stored.phasers_of};
 ghost use Rattle.tier_tree.specs.Origin.{Carries, declared_at};
@@ -14,7 +15,7 @@ use row_code::{DeclaredPhaser, DeclaredPolicy};
 use std::alloc::{AllocError, Global};
 use tier_tree::{DeclareFault, Forest, PhaserId};
 
-/// Returns the policy as a forest has it: without the row of a routine.
+/// Returns the policy as a forest stores it: without the row at which a routine begins.
 fn policy_of(policy: DeclaredPolicy) -> Policy
     ensures { result ≡ policy_of policy }
 {
@@ -36,7 +37,7 @@ fn routine_fault(rows: usize, n: u8, policy: DeclaredPolicy) -> Option<LoadFault
     }
 }
 
-/// Returns the first row of the phaser's routine, or 0 if it has none.
+/// Returns the first row of the phaser's routine, or 0, which nobody uses, if it has none.
 fn routine_row(phaser: &DeclaredPhaser) -> u16
     ensures { result ≡ routine_row phaser.now }
 {
@@ -66,8 +67,8 @@ fn parent_of(phaser: DeclaredPhaser) -> Option<PhaserId>
     }
 }
 
-/// Declares a phaser after those before it, or returns why it is refused. `unwrap` can't fail: `IsPhaser` requires a phase. The
-/// last five clauses are those of `declare_checked`.
+/// Declares the next phaser of the image, or returns why it is refused. `unwrap` can't fail: by `IsPhaser`, the first phase
+/// isn't negative. The last five clauses are explained at `declare_checked`.
 fn declare(forest: &mut Forest, phaser: DeclaredPhaser) -> Result<(), DeclareFault>
     requires fits { IsPhaser phaser }
     requires fresh { AreAllFresh (phasers_of forest.old) }
@@ -89,8 +90,9 @@ fn declare(forest: &mut Forest, phaser: DeclaredPhaser) -> Result<(), DeclareFau
     Ok(())
 }
 
-/// Declares phaser `n` after those before it. `Err`: its routine's first row doesn't exist, or why the forest refuses it. The
-/// last five clauses: it is added as one more, nobody arrives, no phase ends, and its parties are counted.
+/// Declares phaser `n`, after all phasers with lower numbers. `Err`: its routine's first row doesn't exist, or the forest
+/// refuses it. The last five clauses: the forest has one phaser more, nobody arrives, no phase ends, and its parties are
+/// counted.
 fn declare_checked(
     forest: &mut Forest,
     rows: usize,
@@ -122,7 +124,7 @@ fn declare_checked(
     }
 }
 
-/// Declares the phasers in order, or returns the first fault. `rows` is the number of the program's rows.
+/// Declares the phasers in order, or returns the first fault.
 pub fn declare_all(
     alloc: Global,
     rows: usize,

@@ -22,7 +22,7 @@ pub fn target_fault(rows: usize, place: Place, row: u16) -> Option<LoadFault>
     }
 }
 
-/// Returns the fault of row `n` if what it names doesn't exist. `None`: it exists.
+/// Returns the fault of row `n` if `named`, which this row names, doesn't exist. `None`: it exists, or the row names nothing.
 fn named_fault(counts: Counts, n: u16, named: Named) -> Option<LoadFault>
     ensures { result ≡ named_fault counts n named }
 {

@@ -30,6 +30,7 @@ impl Touched {
 }
 
 /// What is saved of a stage before a turn, or before the expiry of a wait, so that it can be undone. It has a fixed size.
+/// `number` and `own` are of the turn's thread, and `beside` is of what else may change.
 #[derive(Drop)]
 pub struct SceneNote {
     pub(crate) number: u8,

@@ -5,6 +5,6 @@ pub enum Patience {
     Endless,
     /// Until it is interrupted: `awaitAdvanceInterruptibly`.
     Interruptible,
-    /// An interrupt ends the wait, and so does this time, which is over at 0 and below.
+    /// Until it is interrupted, or until this time is over. A time of 0 or less is over at once.
     Timed(i32),
 }

@@ -12,7 +12,7 @@ pub enum Reach {
     Cell(u16),
     /// A thread: another one, or the same.
     Thread(u16),
-    /// The words of a phaser and of those above it.
+    /// The words (packed states) of a phaser and of its parents up to the root.
     Tree(u16),
     Barrier(u16),
 }

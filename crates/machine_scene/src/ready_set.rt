@@ -1,8 +1,8 @@
 ghost use Rattle.std.specs.Prelude.{◌<◌};
 ghost use Rattle.machine_scene.specs.ReadySet.{IsSetAt};
 
-/// Two sets of threads, with bit n for thread n: those whose turn is ready, and those that are about to register at a phaser,
-/// which may become ready or not with any other arrival.
+/// Two sets of threads, with bit n for thread n. Those in `turns` can take their turn. Those in `registering` are about to
+/// register at a phaser: any arrival may change whether they can take their turn.
 #[derive(Clone, Copy)]
 pub struct ReadySet {
     pub turns: u64,

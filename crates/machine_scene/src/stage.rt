@@ -61,7 +61,7 @@ impl Model for Stage {
         (length stage.threads.items ≤ 64) × (length stage.barriers.items ≤ 64) };
 }
 
-/// Returns the event of a turn that changes only its own thread, as far as a trace shows: it has no mark.
+/// Returns an event without a mark: a trace shows only what the turn did to its own thread.
 fn alone(what: What) -> Event
     ensures { result ≡ record { what = what; mark = Mark.Nothing } }
 {
@@ -158,7 +158,8 @@ impl Stage {
         &self.phasers
     }
 
-    /// Returns this phaser's number as the forest's functions take it. There is such a phaser.
+    /// Returns this phaser's number as the forest's functions take it. The phaser exists: by `is_forest`, its number fits a
+    /// `u8`.
     fn phaser_id(&self, phaser: u16) -> PhaserId
         requires { phaser < length self.now.phasers }
         ensures { result.0 ≡ phaser }
@@ -197,7 +198,7 @@ impl Stage {
         self.threads.iter().all(|thread| thread.is_finished())
     }
 
-    /// Returns the row that a thread is at, before a step. The second call proves `StandsAt`: what the row names exists.
+    /// Returns the row that a thread is at, before a step. `turn_is_placed` proves `StandsAt`: what the row names exists.
     #[inline(always)]
     pub(crate) fn row_of(&self, program: &Loaded, t: usize) -> Row
         requires sound { IsSound program.now most_before (scene_of self.now) }
@@ -218,7 +219,7 @@ impl Stage {
         self.cells[number]
     }
 
-    /// Returns whether thread `t` can take a turn now. The stored set of ready threads says so, and nothing is computed.
+    /// Returns whether thread `t` can take a turn now. The stored set tells this: only the contract uses `program`.
     #[inline(always)]
     pub fn is_ready(&self, program: &Loaded, t: usize) -> bool
         requires ready { KnowsReady program.now self.now }
@@ -228,7 +229,8 @@ impl Stage {
         ready_set::is_in(self.ready.turns, t)
     }
 
-    /// Returns whether a thread's timed wait can expire now: the thread isn't runnable, and no action runs at its barrier.
+    /// Returns whether a thread's timed wait can expire now: the thread isn't runnable, and the action of the barrier that it
+    /// waits at isn't running.
     pub fn can_expire(&self, program: &Loaded, t: usize) -> bool
         requires sound { IsSound program.now most_before (scene_of self.now) }
         requires known { KnowsReady program.now self.now }
@@ -319,8 +321,8 @@ impl Stage {
         }
     }
 
-    /// Plays the row of a running thread, by the function of the row's group. `Err` as in `turn`. `phasers`: stored words
-    /// change only from the phaser in the row's reach up to its root, so that a step back can restore them.
+    /// Plays the row of a running thread, by the function of the row's group. `Err` as in `turn`. Only the words (packed
+    /// states) from the phaser of the row's `Reach` up to its root change (`phasers`), so that they can be restored.
     #[tactic(auto, using(crate::proofs::Reaches::within_same))]
     fn play_row(&mut self, program: &Loaded, row: Row, t: usize) -> Result<Event, AllocError>
         requires sound { IsSound program.now most_before (scene_of self.old) }

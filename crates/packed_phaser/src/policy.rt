@@ -6,7 +6,7 @@ use phase_number::Phase;
 /// When the end of a phase terminates the phaser: what `Phaser.onAdvance` returns.
 #[derive(Clone, Copy, PartialEq, Eq)]
 pub enum Policy {
-    /// Where no party is registered, as in Java's own `onAdvance`.
+    /// If no party is registered, as in Java's own `onAdvance`.
     Default,
     /// Never.
     Never,
@@ -17,7 +17,7 @@ pub enum Policy {
 }
 
 impl Policy {
-    /// Returns what `onAdvance(phase, registeredParties)` returns, or `None` for `Routine`, which only the program can say.
+    /// Returns what `onAdvance(phase, registeredParties)` returns, or `None` for `Routine`: the program's routine decides.
     pub fn ends(self, phase: Phase, parties: u16) -> Option<bool>
         ensures { result ≡ ends self phase parties }
     {

@@ -37,11 +37,11 @@ struct Fields {
 /// The result of a registration.
 #[derive(Clone, Copy)]
 pub enum Registered {
-    /// The parties are registered; the number of the phase that they joined.
+    /// The parties are registered: the new word, and the number of the phase that they joined.
     At(Word, i32),
     /// The phaser is terminated, and this is its view.
     Dead(i32),
-    /// The phase is ending, and a registration waits until it has ended.
+    /// The phaser is turned: the registration has to wait until the phase has ended.
     Held,
     /// There would be more than 65535 parties.
     TooMany,
@@ -74,7 +74,7 @@ fn unpacked(bits: u64) -> Fields
     }
 }
 
-/// Joins four fields to a word. `unarrived` is at most `parties`, or at most 1 if that is 0.
+/// Joins four fields to a word. `unarrived` is at most `parties`, or at most 1 if `parties` is 0.
 #[tactic(auto, unfolding(crate::specs::Word::fields_of))]
 fn packed(fields: Fields) -> Word
     requires phase { fields.phase < 2 ^ 31 }
@@ -118,7 +118,7 @@ impl Word {
         })
     }
 
-    /// Returns the word with these bits, or `None` if `unarrived` is above `parties` (above 1 if that is 0).
+    /// Returns the word with these bits. `None`: `unarrived` is above `parties`, or above 1 if `parties` is 0.
     pub fn from_raw(bits: u64) -> Option<Word>
         ensures { SomeIff result (IsWord bits) bits }
     {
@@ -159,7 +159,8 @@ impl Word {
         unpacked(self.bits).parties
     }
 
-    /// Returns `getArrivedParties`: how many parties have arrived in this phase; all of them once the phaser is terminated.
+    /// Returns `getArrivedParties`: how many parties have arrived in this phase, or all once the phaser is terminated. An empty
+    /// phaser has 1 in `unarrived`: without `saturating_sub`, the result would be below 0.
     pub fn arrived(self) -> u16
         ensures { result ≡ (record_of self).arrived }
     {
@@ -271,7 +272,7 @@ impl Word {
         Arrived::Turned(self.without_one(leave))
     }
 
-    /// Plays `arrive` for a word of an earlier phase: it first enters the phase of `other`, in which no party has arrived.
+    /// Plays `arrive` for a word of an earlier phase: the word first enters the phase of `other`, in which none has arrived.
     #[inline(always)]
     pub fn arrive_anew(self, other: Word, leave: bool) -> Arrived
         ensures { arrival_of result

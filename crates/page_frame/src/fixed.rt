@@ -1823,14 +1823,14 @@ UDq8SN+6273kV4qBEH0DyiLdWZjIOjGQp92a1Wk1rYmkE82lBxKxefgXnJHV4jSx3+NOEicLgnqR3OZd
 JskOizy50M0MZhPpQXcoutIZzOi/rvnR0nAq7dlLup7bJxjyRl1wzXUdsqIDFb0xPANlURRFvcIYbrhC0ubVg+Vq442Icc3FqwpvTflNu+kCBeG5pNBB1aqepJqcem3BIhbeXvgDOaEx\
 0a/J9guaIvOqw7ulFQuUa8hPiMyyXdNLrfWmdDegH/BeMP1Ug5fvWLVihwKXBMGYgLpOMTPP5UB2DdxF5LQTtJPPJLLDbtJxMsMw4WQ+plC4rmMU4+YmAa2phvrTxmrQKEXwhoQ7ULug\
 trOFa7OOSZPxf4S9wMrC1YmfU8GG9Fe2nhP1bbbeRSvMDTRZk0ynQbmH9lvxtJN0nb50Lo0WiyCdpzM6rOiFg6B6hMsjtBjHcjvap17ddqveWLiBSlIRqMjDEgi02ZNy8MNZpfsBGkxd\
-qFdTgfZT4dAJktJedroLGurD9eEZbnowC4Z1sXDcaetpaZwzx2me0xJta2zubYu3RFri0baWaLipsbkl1tzb0tvSE24NR+a0Nod7IpGWcDjaEGtraonOaZ6hb6v0JJLVrHbKbw9o19pp\
-h73kBC+gEsYX9DN+5YxeJGdZtWRDd5JVqxVa6gssLKMcUyAuT26crX71FIM5q90ov9p9NYv+iqQ67TqMltapKNy+RWcgiqoxP5wxY+4pUNEMK2i6IxCVFL80WsF/Ua5Oz3k5prDfM7wr\
-Usyqhkj017YACi/pWomHMW84Povf5pRo379PgWqB5+l40CgM0KKfH+oftoInsw765OUfr9U5y0/ycAUSMitkgSzBSIsHl+oKvnD4KH5rE13BC7YSj0LE0ZBWURX8q5hlxcNiwmNhxKwQ\
-ZfbA48OiBPEY1soY11IsUxpjD0sgXHTIC6xmmREFNTfFMLMpWppPgAlXHPJWnv9PP2rMfWljgEEhA33YwU1YtwAtYAivI+3Kf17gUTGoIb39YQc8RGhkjq9JCIOrBhFh5huPKZkRvPkP\
-kaJZvTEhmFjWmSi3InA9r5EAAbjLeyhpUFF5HLIyii+DAdCYh2TIVFIVw5mAHICHZS4kyzRxOMWgqBlJJvTRTqFG/TVGUftwbVNAtMBr6vgR9mYU8auApwJeFfQIwTp+yTCyke2WjAji\
-vyCKLQ+ZWK5sPK2CKzI4h+KGX/Mw4DZY4p8+OYNXcRRhVS3VwHaDggby9CELuFmfDpyBL0VXg80/3dzA0tDXE4BphmUt1q5N6kSwsGo7NX4W+JQQ0LkaeRP9exr2Z/o9H4Wc7e2wdHFD\
-LWB/Q3gAm6PPLsLCLglsyDXlWdwp8fOM8i4nmaGvPq3BLixJomGK3kZ8IxnbC++7MqUZKJeCBFIgAiOfGjnfxCcwenYjj5q4WkZeffQE/ctz9Bmjz0H6XEefN9DnvSfw+AfTBD4DTxew\
-oe9Bev5X9LmCPgfocy19XkefW+hz57HFP9ccSc/R50L6vOJIbpdo5G1Pr0LlHfR5Gn3+f7OyLZmlMwYA</script>\n<script type=\"module\" id=\"script\">\"use stric\
+qFdTgfZT4dAJktJedroLGurD9eEZbnowC4Z1jW1N4ZZYT2u4N9ISa23raWubM6etcU5bT2vMiTY2tDjx1ubeWDg+pyHcEm9RNSNtPfFIbE5T3AlH2pw5M/RtlZ5EsprVTvntAe1aO+2w\
+l5zgBVTC+IJ+xq+c0YvkLKuWbOhOsmq1Qkt9gYVllGMKxOXJjbPVr55iMGe1G+VXu69m0V+RVKddh9HSOhWF27foDERRNeaHM2bMPQUqmmEFTXcEopLil0Yr+C/K1ek5L8cU9nuGd0WK\
+WdUQif7aFkDhJV0r8TDmDcdn8ducEu379ylQLfA8HQ8ahQFa9PND/cNW8GTWQZ+8/OO1Omf5SR6uQEJmhSyQJRhp8eBSXcEXDh/Fb22iK3jBVuJRiDga0iqqgn8Vs6x4WEx4LIyYFaLM\
+Hnh8WJQgHsNaGeNaimVKY+xhCYSLDnmB1SwzoqDmphhmNkVL8wkw4YpD3srz/+lHjbkvbQwwKGSgDzu4CesWoAUM4XWkXfnPCzwqBjWktz/sgIcIjczxNQlhcNUgIsx84zElM4I3/yFS\
+NKs3JgQTyzoT5VYEruc1EiAAd3kPJQ0qKo9DVkbxZTAAGvOQDJlKqmI4E5AD8LDMhWSZJg6nGBQ1I8mEPtop1Ki/xihqH65tCogWeE0dP8LejCJ+FfBUwKuCHiFYxy8ZRjay3ZIRQfwX\
+RLHlIRPLlY2nVXBFBudQ3PBrHgbcBkv80ydn8CqOIqyqpRrYblDQQJ4+ZAE369OBM/Cl6Gqw+aebG1ga+noCMM2wrMXatUmdCBZWbafGzwKfEgI6VyNvon9Pw/5Mv+ejkLO9HZYubqgF\
+7G8ID2Bz9NlFWNglgQ25pjyLOyV+nlHe5SQz9NWnNdiFJUk0TNHbiG8kY3vhfVemNAPlUpBACkRg5FMj55v4BEbPbuRRE1fLyKuPnqB/eY4+Y/Q5SJ/r6PMG+rz3BB7/YJrAZ+DpAjb0\
+PUjP/4o+V9DnAH2upc/r6HMLfe48tvjnmiPpOfpcSJ9XHMntEo287elVqLyDPk+jz/8PBojKb6UzBgA=</script>\n<script type=\"module\" id=\"script\">\"use stric\
 t\";\n// app/language.js\nconst m0 = (() => {\nconst KINDS = {\n__proto__: null,\nhalt: [\"\"],\nldi: [\"rn\"],\nmov: [\"rr\"],\nadd: [\"rrr\
 \"],\nsub: [\"rrr\"],\njmp: [\"L\"],\nbeq: [\"rrL\"],\nbne: [\"rrL\"],\nblt: [\"rrL\"],\ncall: [\"L\"],\nret: [\"\"],\ntry: [\"L\"],\nendtry\
 : [\"\"],\nthrow: [\"r\"],\nout: [\"r\"],\nlds: [\"rC\"],\nsts: [\"rC\"],\nself: [\"r\"],\nintr: [\"T\", \"@.interrupt()\"],\nintrd: [\"r\", \

@@ -12,7 +12,7 @@ pub mod fixed;
 use fixed::{BEFORE_SCHEDULE, BEFORE_SOURCE, BEFORE_TRACE, HEAD, TAIL_1, TAIL_2, TAIL_3, TAIL_4};
 use pictures::frame::Frame;
 
-/// Returns the fixed parts of a page, which stand before, between and behind its texts.
+/// Returns the fixed parts of a page, which stand before, between and after its texts.
 pub fn frame() -> Frame<'static>
     ensures { parts_of result ≡ fixed_parts }
 {

@@ -59,11 +59,12 @@ impl Phase {
         self.number() + i32::MIN
     }
 
-    /// Returns the phase in which `getPhase` returns `view`. If `view` is negative, its number is `view` + 2147483648.
+    /// Returns the phase in which `getPhase` returns `view`. If `view` is negative, the phase's number is `view` + 2147483648.
     pub fn prevailing(view: i32) -> Phase
         ensures { phase_view result (is_ended_view view) ≡ view }
     {
         let number = if view < 0 {
+            // In 32 bits, to add `i32::MIN` is to add 2147483648.
             view.wrapping_add(i32::MIN)
         } else {
             view

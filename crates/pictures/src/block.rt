@@ -15,7 +15,7 @@ use instruction_table::Row;
 use std::alloc::{AllocError, Global};
 use thread_machine::{Choice, Event, Machine, StepFault};
 
-/// Returns what a thread's column shows for its choice, the row and what it did, as `paaa r0 p = 1`.
+/// Returns what the column of the choice's thread shows: the row and what the choice did, for example `paaa r0 p = 1`.
 fn did(pen: &Pen<'_, '_>, choice: Choice, row: Row, event: &Event) -> Result<Vec<u8>, AllocError>
     ensures { IfOk result (λ text. text.items ≡ turn_text (column_room pen.now.sheet) (row_caption pen.now.symbols.now row)
         choice.expiry event.now.what) }
@@ -31,7 +31,7 @@ fn did(pen: &Pen<'_, '_>, choice: Choice, row: Row, event: &Event) -> Result<Vec
     )
 }
 
-/// Returns the line of choice `number` and its event in the block from thread `first` on. `machine` is as it is afterwards.
+/// Returns the line of choice `number`, which played `row`, in the block from thread `first` on. `machine` has played it.
 fn played_line(
     pen: &Pen<'_, '_>,
     machine: &Machine,
@@ -59,7 +59,7 @@ fn played_line(
     )
 }
 
-/// Returns `no thread t9` for a thread that doesn't exist. At the limit it returns nothing: the thread's column shows that.
+/// Returns `no thread t9` if there is no such thread. At the step limit it returns no bytes: the thread's column shows that.
 fn refused_words(alloc: Global, why: StepFault, thread: u8) -> Result<Vec<u8>, AllocError>
     ensures { IfOk result (λ text. text.items ≡ refused_words why thread) }
 {
@@ -96,7 +96,7 @@ fn refused_line(
     )
 }
 
-/// Plays a choice of an existing thread, and appends its line. Returns false if it was refused because of the limit.
+/// Plays a choice of an existing thread, and appends its line. Returns false if it was refused because of the step limit.
 fn draw_turn(
     pen: &Pen<'_, '_>,
     text: &mut Vec<u8>,
@@ -126,7 +126,7 @@ fn draw_turn(
     }
 }
 
-/// Plays a choice, and appends its line. Returns false if it was refused: at the limit, or because its thread doesn't exist.
+/// Plays a choice, and appends its line. Returns false if it was refused: at the step limit, or for no such thread.
 fn draw_choice(
     pen: &Pen<'_, '_>,
     text: &mut Vec<u8>,

@@ -81,7 +81,7 @@ fn push_operands(
     Ok(())
 }
 
-/// Appends a row as a program text would have it, with the names of its operands, as `paaa r0 p`.
+/// Appends a row as a program text would have it, with the names of its operands, for example `paaa r0 p`.
 pub fn push_row(text: &mut Vec<u8>, symbols: &Symbols, row: Row) -> Result<(), AllocError>
     ensures { OnOk result (text.new.items ≡ text.old.items ++ row_caption symbols.now row) }
 {

@@ -32,8 +32,8 @@ fn have_more(runs: &[Run], most: u64) -> bool
     false
 }
 
-/// Returns the runs of a schedule, or its fault, or `Choices` if there are more than `most`. A run is a choice and how often.
-/// By the clauses, each fault is returned only if it is there, and no other faults are returned.
+/// Returns the runs of a schedule, or its fault, or `Choices` if there are more than `most`. A run is a choice and how often it
+/// is made. By the contract, each fault is returned only if it is there, and no other faults are returned.
 pub(crate) fn runs_in(alloc: Global, schedule: &[u8], most: u64) -> Result<Vec<Run>, PageFault>
     requires { length schedule.now < 9223372036854775807 }
     ensures runs { IfOk result (λ runs. AreRunsOf schedule.now runs.items) }
@@ -76,7 +76,7 @@ fn choices_of(alloc: Global, runs: &[Run]) -> Result<Vec<Choice>, AllocError>
 }
 
 /// Returns the choices of a schedule's text, one by one, or the schedule's fault, or `Choices` if they are more than 2,000. By
-/// the clauses, each fault is returned only if it is there, and no other faults are returned.
+/// the contract, each fault is returned only if it is there, and no other faults are returned.
 pub fn choices_in(alloc: Global, schedule: &[u8]) -> Result<Vec<Choice>, PageFault>
     requires { length schedule.now < 9223372036854775807 }
     ensures choices { IfOk result (λ choices. AreChoicesOf schedule.now choices.items) }

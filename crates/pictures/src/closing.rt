@@ -1,5 +1,5 @@
-// The last lines of a picture: who waits at the end, and who died. The line of a thread that waits is `front` and then `back`: if
-// it is too long, `front` is cut, and `back` is kept.
+// The last lines of a picture: who waits at the end, and who died. The line of a thread that waits is `front` and then `back`.
+// If the line is too long, `front` is cut, and `back` is kept.
 ghost use Rattle.std.specs.Prelude.{◌≡◌, ◌++◌, ◌<◌, ℤ, length, slice_get, true, IfOk, IfSome, OnOk};
 ghost use Rattle.cyclic_barrier.specs.Waits.{wait_at};
 ghost use Rattle.loader.specs.Program.{row_at};
@@ -95,7 +95,7 @@ fn push_arrived_at(
     push_arrived_above(back, forest.arrived(at), forest.parties(at))
 }
 
-/// Returns the phase that a phaser shows, as `Phaser.getPhase`: 0 if it doesn't exist.
+/// Returns what `Phaser.getPhase` returns for a phaser, or 0 if there is no such phaser.
 fn phase(forest: &Forest, number: u16) -> i32
     ensures { result ≡ view_of (flat_at (phasers_of forest.now) number) }
 {
@@ -148,7 +148,7 @@ fn push_phaser_wait(
     push_arrived_at(pen, front, back, forest, PhaserId(number as u8))
 }
 
-/// Returns the state of a thread's wait at a barrier, or `None` if it has none there.
+/// Returns the state of a thread's wait at a barrier, or `None` if the thread has no wait at it, or there is no such barrier.
 fn wait_at(machine: &Machine, thread: u8, barrier: u16) -> Option<WaitState>
     requires { thread < length machine.now.scene.threads }
     ensures { result ≡ wait_at (barrier_at (scene_of machine.now.scene) barrier).waits thread }
@@ -231,7 +231,7 @@ fn push_awaited(
 }
 
 /// Returns the exception that a waiting thread throws at its next turn: 3 if the thread is interrupted, 4 if its barrier broke.
-/// None if it throws none then.
+/// None if it throws none. The thread is runnable, so if nothing has ended its wait, it is interrupted.
 fn thrown(machine: &Machine, thread: u8, row: Row) -> Option<i32>
     requires { thread < length machine.now.scene.threads }
     ensures phase { let scene = scene_of machine.now.scene in (phase : ℤ) → (thread_at scene thread).status ≡ Status.AwaitsPhase phase

@@ -34,7 +34,7 @@ pub fn push_value(text: &mut Vec<u8>, word: &[u8], value: i32) -> Result<(), All
     text.extend_from_slice(Buffer::new().format(value).as_bytes())
 }
 
-/// Appends the number of a choice, with blanks before it so that both have six bytes. A longer number has no blank.
+/// Appends the number of a choice, after blanks that fill it up to six bytes. A longer number gets no blank.
 pub fn push_number(text: &mut Vec<u8>, number: u64) -> Result<(), AllocError>
     ensures { OnOk result (text.new.items ≡ text.old.items ++ number_text number) }
 {
@@ -80,7 +80,8 @@ pub fn kept_behind(
     shortened(alloc, room, text.as_slice())
 }
 
-/// Appends a text at a column of the line, after blanks, or at once if the line is longer. An empty text adds nothing.
+/// Appends a text at a column of the line, after blanks, or at once if the line is already longer than that. An empty text adds
+/// nothing.
 pub fn put_at(line: &mut Vec<u8>, column: usize, text: &[u8]) -> Result<(), AllocError>
     ensures { OnOk result (line.new.items ≡ put_at column text.now line.old.items) }
 {

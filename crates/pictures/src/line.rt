@@ -43,7 +43,8 @@ fn cell<'a>(machine: &Machine, turn: u8, did: &'a [u8], thread: u8) -> &'a [u8]
     }
 }
 
-/// Appends the columns from thread `first` on, after the first 8 bytes for the number. That of thread `turn` shows `did`.
+/// Appends the columns of the block from thread `first` on. They begin after 8 bytes for the number. The column of thread
+/// `turn` shows `did`.
 #[tactic(auto, using(crate::proofs::Cells::cell_steps))]
 fn put_cells(
     pen: &Pen<'_, '_>,
@@ -64,7 +65,7 @@ fn put_cells(
 }
 
 /// Returns a choice's line in the block from thread `first` on: its number, the columns, and `told`, what happened to phasers
-/// and barriers. `machine` is the machine after the choice.
+/// and barriers. Thread `turn` has made the choice: its column shows `did`. `machine` is the one after the choice.
 pub(crate) fn choice_line(
     pen: &Pen<'_, '_>,
     machine: &Machine,
@@ -93,7 +94,7 @@ fn name_cell(pen: &Pen<'_, '_>, thread: u32) -> Result<Vec<u8>, AllocError>
     shortened(pen.alloc, pen.sheet.column_room(), name.as_slice())
 }
 
-/// Returns the head of the block from thread `first` on: `choice` and the threads' names.
+/// Returns the head of the block from thread `first` on: `choice` in the 8 bytes for numbers, and the threads' names.
 #[tactic(auto, using(crate::proofs::Cells::cell_steps))]
 pub(crate) fn names_line(
     pen: &Pen<'_, '_>,

@@ -9,11 +9,12 @@ use trace_text::RunEnd;
 #[derive(Drop)]
 pub struct Shown {
     pub bytes: Vec<u8>,
-    /// The choice of a thread that doesn't exist, and its place from 1, if that ended the run.
+    /// The choice of a thread that doesn't exist, and its number from 1, if this choice ended the run.
     pub missing: Option<(u64, Choice)>,
 }
 
-/// Returns the choice whose thread doesn't exist, and its number from 1, if it ended this run. None if none did.
+/// Returns the choice whose thread doesn't exist, and its number from 1, if it ended the run. None if none did. `machine` is
+/// the one after the run.
 pub fn missing(machine: &Machine, choices: &[Choice]) -> Option<(u64, Choice)>
     ensures { result ≡ missing_at (world_of machine.now) choices.now }
 {

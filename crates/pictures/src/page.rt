@@ -70,14 +70,15 @@ fn loaded(alloc: Global, image: Image) -> Result<Loaded, PageFault>
     }
 }
 
-/// A trace, and the choice of a thread that doesn't exist, with its place, if that ended the run.
+/// A trace, and the choice of a thread that doesn't exist, with its number from 1, if this choice ended the run.
 #[derive(Drop)]
 struct Traced {
     text: CountingSink,
     missing: Option<(u64, Choice)>,
 }
 
-/// Plays these runs on a program, and counts all bytes of their trace, but keeps only the first 16,777,216.
+/// Plays these runs on a program, and counts all bytes of their trace, but keeps only the first 16,777,216. Fails only if out
+/// of memory: the output never fails.
 fn trace_of_runs(alloc: Global, program: Loaded, runs: &[Run]) -> Result<Traced, AllocError>
     ensures text { IfOk result (λ traced. traced.text.written ≡ trace_of (first_world program 1000000000) (choices_of runs.now)) }
     ensures missing { IfOk result (λ traced. traced.missing
@@ -107,7 +108,7 @@ fn whole(text: &CountingSink) -> Result<&[u8], PageFault>
     Ok(text.kept())
 }
 
-/// Appends a fixed part, and the text that stands behind it.
+/// Appends a fixed part (`before`), and after it a text, which is escaped.
 fn add_text(page: &mut Vec<u8>, before: &[u8], text: &[u8]) -> Result<(), AllocError>
     ensures { OnOk result (page.new.items ≡ page.old.items ++ (before.now ++ escaped text.now)) }
 {
@@ -115,7 +116,7 @@ fn add_text(page: &mut Vec<u8>, before: &[u8], text: &[u8]) -> Result<(), AllocE
     add_escaped(page, text)
 }
 
-/// Appends what stands behind the last text.
+/// Appends the pieces of the fixed part after the last text.
 fn add_tail(page: &mut Vec<u8>, tail: &[&[u8]]) -> Result<(), AllocError>
     ensures { OnOk result (page.new.items ≡ page.old.items ++ flat_map (λ (piece : Bor (List ℕ)). piece.now) tail.now) }
 {
@@ -147,7 +148,7 @@ fn page_in(
     Ok(page)
 }
 
-/// Returns the page of a program under these runs, with this listing and source, or `Trace` or `Memory`.
+/// Returns the page of a program under these runs, with this listing and source, or the fault `Trace` or `Memory`.
 fn show_runs(
     alloc: Global,
     frame: Frame,
@@ -175,7 +176,7 @@ fn show_runs(
 
 /// Returns the page of a program with its source, which may be empty, its schedule and its trace; or what is wrong with them.
 /// Beside the page it returns the choice that ended the run because its thread doesn't exist, if one did (`missing`). By the
-/// clauses, each fault is returned only if it is there, and an image with a load fault never has a page.
+/// contract, each fault is returned only if it is there, and an image with a load fault never has a page.
 pub fn page(
     alloc: Global,
     frame: Frame,

@@ -72,7 +72,8 @@ pub fn turn_text(
     kept_behind(alloc, room, front, answer.as_slice())
 }
 
-/// Returns the sign of another thread: `|` runs, `!` throws, `:` waits and is runnable, `#` waits; nothing after its end.
+/// Returns the sign of a thread without the turn: `|` runs, `!` throws, `:` waits and is runnable, `#` waits. A thread that has
+/// ended or died has no sign.
 pub fn standing(ready: bool, status: Status) -> &'static [u8]
     ensures { result.now ≡ standing ready status }
 {

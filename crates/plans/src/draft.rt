@@ -25,7 +25,7 @@ struct Reading {
 }
 
 impl Reading {
-    /// Counts one more open parenthesis. Fails if 16 are open. It keeps the line of the outermost, for the fault `NotClosed`.
+    /// Counts one more open parenthesis. Fails if 16 are open. Keeps the line of the outermost one for the fault `NotClosed`.
     fn open(&mut self, line: u64) -> Result<(), PlanFaultKind>
         ensures opened { AnswersSaid (λ _. draft_of self.new) result (draft_opened line (draft_of self.old)) }
         ensures other { result ≢ Err PlanFaultKind.Memory }
@@ -90,7 +90,7 @@ impl Reading {
         }
     }
 
-    /// Appends the words of `bytes`, line number `line`, up to its comment, for threads with these names. Stops at a fault.
+    /// Appends the words of `bytes`, which is line `line`, up to its comment, for threads with these names. Stops at a fault.
     fn add_line(&mut self, names: &[&[u8]], line: u64, bytes: &[u8]) -> Result<(), PlanFault>
         requires { length names.now ≤ 64 }
         ensures { AnswersPlan (λ _. draft_of self.new) result

@@ -6,15 +6,15 @@ ghost use Rattle.plans.specs.FaultNumber.{plan_number};
 pub enum PlanFaultKind {
     /// No word of a plan is spelled so.
     BadWord,
-    /// Behind the star stands no number from 1 to 1,000,000.
+    /// What follows the star isn't a number from 1 to 1,000,000.
     BadCount,
-    /// Behind the question mark stands no number below 2 to the 64th.
+    /// What follows the question mark isn't a number below 2 to the 64th.
     BadSeed,
     /// No thread has this name.
     NotNamed,
     /// No thread has this number.
     NoThread,
-    /// A seventeenth parenthesis is opened in one another.
+    /// A parenthesis is opened inside sixteen others.
     TooDeep,
     /// A parenthesis is closed that wasn't opened.
     NotOpened,
@@ -25,7 +25,7 @@ pub enum PlanFaultKind {
 }
 
 impl PlanFaultKind {
-    /// Returns the number that a report has for this fault, or `None` if it is out of memory.
+    /// Returns the number that a report has for this fault, or `None` for `Memory`.
     pub fn number(self) -> Option<u8>
         ensures { result ≡ plan_number self }
     {
@@ -43,7 +43,7 @@ impl PlanFaultKind {
     }
 }
 
-/// What is wrong with a plan, and its line, from 1. Of parentheses that are never closed it is the outermost one's.
+/// What is wrong with a plan, and in which line, from 1. For `NotClosed` it is the line of the outermost open parenthesis.
 #[derive(Clone, Copy, PartialEq, Eq)]
 pub struct PlanFault {
     pub line: u64,

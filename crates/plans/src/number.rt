@@ -6,7 +6,7 @@ ghost use Rattle.plans.specs.Numbers.{are_digits, count_in, number_in, seed_in};
 /// The largest count that a word may ask for.
 const MOST_TIMES: u64 = 1_000_000;
 
-/// Returns whether every byte is a digit. This is so if there is no byte.
+/// Returns whether every byte of a word is a digit. It is true for an empty word.
 fn all_digits(word: &[u8]) -> bool
     ensures { result ≡ list_all is_ascii_digit word.now }
 {
@@ -33,7 +33,7 @@ fn digits_value(digits: &[u8]) -> u128
     value
 }
 
-/// Returns the number that a word of 1 to `most_digits` digits spells, or `None` if it is above `most` or no such word.
+/// Returns the number that a word spells. `None`: the word isn't 1 to `most_digits` digits, or the number is above `most`.
 pub fn number_in(most_digits: usize, most: u64, word: &[u8]) -> Option<u64>
     requires { most_digits ≤ 20 }
     ensures { result ≡ number_in most_digits most word.now }
@@ -48,7 +48,7 @@ pub fn number_in(most_digits: usize, most: u64, word: &[u8]) -> Option<u64>
     Some(value as u64)
 }
 
-/// Returns the count that a word spells, 1 to 1,000,000 without a leading zero, or `None` for any other word.
+/// Returns the count that a word spells: 1 to 1,000,000, in at most 7 digits, without a leading zero. `None`: any other word.
 pub fn count_in(word: &[u8]) -> Option<u32>
     ensures { result ≡ count_in word.now }
 {

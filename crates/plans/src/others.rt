@@ -1,4 +1,4 @@
-// What follows another choice than a run's own: its thread goes on, then the run, then all threads.
+// What follows a choice that is made instead of a run's own: the chosen thread goes on, then the run, then all threads.
 ghost use Rattle.std.specs.Prelude.{◌≡◌, ◌<◌, ◌≤◌, IfOk, OnOk};
 ghost use Rattle.plans.specs.Others.{all_kept, gone_ahead, is_step_in, kept, other_choices, turned_about};
 ghost use Rattle.plans.specs.Planned.{AreRuns};
@@ -15,7 +15,7 @@ use thread_machine::{Choice, Machine};
 const MOST_TURNS: u32 = 99;
 
 impl Player {
-    /// Returns whether a choice would be a step. This is false if there is no such thread.
+    /// Returns whether a choice would be a step. If its thread doesn't exist, the choice wouldn't be one.
     #[tactic(auto, unfolding(crate::specs::Others::is_step_in))]
     fn is_step(&self, choice: Choice) -> bool
         ensures { result ≡ is_step_in self.now.world choice }
@@ -23,7 +23,7 @@ impl Player {
         (choice.thread as usize) < self.thread_count() && self.is_choice_ready(choice)
     }
 
-    /// Makes a choice, and then at most 99 turns of its thread, while that is runnable.
+    /// Makes a choice, and then at most 99 turns of its thread, while the thread is runnable.
     #[tactic(auto, unfolding(crate::specs::Others::gone_ahead))]
     fn go_ahead(&mut self, alloc: Global, choice: Choice) -> Result<(), AllocError>
         ensures { OnOk result (self.new ≡ gone_ahead choice self.old) }
@@ -32,7 +32,7 @@ impl Player {
         self.follow(alloc, Rule::Alone(choice.thread), MOST_TURNS)
     }
 
-    /// Makes a choice of the original run if it is a step now. Otherwise it does nothing: other choices have come before it.
+    /// Makes a choice of the original run if it is a step now. After the other choices it may no longer be one: it is left out.
     #[tactic(auto, unfolding(crate::specs::Others::kept))]
     fn keep(&mut self, choice: Choice) -> Result<(), AllocError>
         ensures { OnOk result (self.new ≡ kept choice self.old) }
@@ -54,7 +54,7 @@ impl Player {
         Ok(())
     }
 
-    /// Makes steps of all threads in turn, until none is possible or no choice is left.
+    /// Makes steps of all threads in turn, until none is possible or no more choices are allowed.
     #[tactic(auto, unfolding(crate::specs::Others::turned_about))]
     fn turn_all_about(&mut self, alloc: Global) -> Result<(), AllocError>
         ensures { OnOk result (self.new ≡ turned_about self.old) }
@@ -64,8 +64,8 @@ impl Player {
     }
 }
 
-/// Returns what follows if another choice is made at this point of a run, at most `most` choices: the choice and turns of its
-/// thread, then the original choices that still do something (`own`), and then turns of all threads.
+/// Returns what follows if `choice` is made at this point of a run, at most `most` choices: the choice and turns of its thread,
+/// then those of the original run's choices (`own`) that are steps now, and then turns of all threads.
 pub fn other_choices(
     alloc: Global,
     machine: Machine,

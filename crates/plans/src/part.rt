@@ -4,7 +4,7 @@ ghost use Rattle.plans.specs.Parts.{Holds, takes_number, takes_seed, word_with};
 
 use crate::word::{Chosen, Rule, Step, Word};
 
-/// A word without its number, and without a seed of more than a byte.
+/// A word of a plan without its number (a count or a limit). A seed below 256 is in the part, a larger one isn't.
 #[derive(Clone, Copy)]
 pub enum Part {
     Turn(u8),
@@ -24,7 +24,7 @@ pub enum Part {
     CloseTimes,
 }
 
-/// A word's part, its number and its seed, 0 where it has none.
+/// A word's part, its number and its seed. A number or a seed that the part doesn't take is 0.
 #[derive(Clone, Copy)]
 pub struct Stored {
     pub part: Part,
@@ -77,7 +77,7 @@ fn numbered(part: Part, number: u32) -> Stored
     }
 }
 
-/// Returns how a choice that is made `times` times is stored. If that is 1, no number is stored.
+/// Returns how a choice that is made `times` times is stored. A number is stored only if `times` isn't 1.
 fn stored_choice(chosen: Chosen, times: u32) -> Stored
     ensures { Holds result (Word.Step (Step.Make chosen times)) }
 {
@@ -89,7 +89,7 @@ fn stored_choice(chosen: Chosen, times: u32) -> Stored
     }
 }
 
-/// Returns how choices by a seed are stored. A seed below 256 is in the part itself.
+/// Returns how choices by a seed are stored, at most `most` if there is a limit. A seed below 256 is in the part itself.
 fn stored_seed(seed: u64, most: Option<u32>) -> Stored
     ensures { Holds result (Word.Step (Step.Follow (Rule.BySeed seed) most)) }
 {
@@ -122,7 +122,7 @@ fn stored_rule(rule: Rule, most: Option<u32>) -> Stored
     }
 }
 
-/// Returns a word's part, and its number and seed, 0 where it has none.
+/// Returns a word's part, its number and its seed. A number or a seed that the part doesn't take is 0.
 pub fn stored_word(word: Word) -> Stored
     ensures { Holds result word }
 {
@@ -152,7 +152,7 @@ fn rule(rule: Rule, most: Option<u32>) -> Word
     Word::Step(Step::Follow { rule, most })
 }
 
-/// Returns the word that is stored as this part, number and seed. A part without a number or without a seed ignores it.
+/// Returns the word that is stored as this part, number and seed. A number or a seed that the part doesn't take is ignored.
 pub fn word_with(part: Part, number: u32, seed: u64) -> Word
     ensures { result ≡ word_with part number seed }
 {

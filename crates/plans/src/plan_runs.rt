@@ -10,7 +10,7 @@ use std::alloc::{AllocError, Global};
 use thread_machine::Machine;
 
 /// Plays a plan from the beginning of a program, and makes at most `most` choices. Returns its choices, the machine after them,
-/// and whether it was cut off.
+/// and whether the plan wanted more of them.
 pub fn plan_runs(
     alloc: Global,
     program: Loaded,
@@ -22,11 +22,12 @@ pub fn plan_runs(
     ensures runs { IfOk result (λ planned. AreRuns planned.runs.items) }
 {
     let mut player = Player::new(alloc, program, most)?;
+    // The result would be the count of a `)` that no `(` opened. The words of a plan that was read have none.
     player.play_words(alloc, &mut words.again())?;
     Ok(player.into_planned())
 }
 
-/// Plays a plan from a machine's present state. Returns its choices, the machine after them, and whether it was cut off.
+/// Plays a plan from a machine's present state, as `plan_runs` does from a program's beginning, with at most 1,000,000 choices.
 pub fn plan_runs_at(
     alloc: Global,
     machine: Machine,

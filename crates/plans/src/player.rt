@@ -12,12 +12,12 @@ use std::alloc::{AllocError, Global};
 use std::marker::Model;
 use thread_machine::{Choice, Machine, StepFault};
 
-/// The machine's limit of effective steps: more than there are choices.
+/// The machine's limit of steps. It is above `MOST_CHOICES`, so that the player's own limit is always reached first.
 const MOST_STEPS: u32 = 1_000_000_000;
 /// The most choices that a plan makes.
 pub const MOST_CHOICES: u32 = 1_000_000;
 
-/// A machine, the choices that led to it, and how many more are allowed.
+/// A machine, the choices that led to it, how many more are allowed (`left`), and whether one was asked for beyond (`stopped`).
 #[derive(Drop)]
 pub struct Player {
     machine: Machine,
@@ -94,7 +94,8 @@ impl Player {
         self.left
     }
 
-    /// Returns whether a choice was asked for when none was left. Then nothing changes any more.
+    /// Returns whether a choice was asked for when none was left. Then nothing changes any more. Both fields are compared:
+    /// the invariant doesn't say that a stopped player has no choice left.
     pub fn is_over(&self) -> bool
         ensures { result ≡ ((self.now.left == 0) && self.now.stopped) }
     {

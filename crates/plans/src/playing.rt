@@ -1,4 +1,4 @@
-// Plays the words of a plan, with its groups.
+// Plays the words of a plan, with its groups. The functions call each other: `#[cycle(words)]` names their common proofs.
 ghost use Rattle.std.specs.Prelude.{◌≤◌, IfOk, OnOk, length};
 ghost use Rattle.plans.specs.Groups.{HasPlayed, HasPlayedGroup, HasPlayedAgain};
 
@@ -8,8 +8,8 @@ use crate::words::WordsFrom;
 use std::alloc::{AllocError, Global};
 
 impl Player {
-    /// Plays words up to the parenthesis that closes their group, and returns how often the group is to be played; or plays
-    /// them to their end, and returns `None`.
+    /// Plays words up to the parenthesis that closes their group. Returns how often that group is to be played, or `None` if
+    /// the words end before such a parenthesis.
     #[cycle(words)]
     pub fn play_words(
         &mut self,
@@ -29,7 +29,7 @@ impl Player {
         }
     }
 
-    /// Plays a group, whose `(` was read, as often as its `)` says. If the first time makes no choice, it isn't played again.
+    /// Plays a group, whose `(` was read, as often as its `)` says. If the first pass makes no choice, it is the last.
     #[cycle(words)]
     fn play_group(&mut self, alloc: Global, words: &mut WordsFrom<'_>) -> Result<(), AllocError>
         ensures played { OnOk result (HasPlayedGroup words.old words.new self.old self.new) }
@@ -45,7 +45,7 @@ impl Player {
         Ok(())
     }
 
-    /// Plays words until they have been played `times` times with the first one. A pass that makes no choice is the last.
+    /// Plays a group's words again, until they were played `times` times in all. A pass that makes no choice is the last.
     #[cycle(words)]
     fn play_again(
         &mut self,

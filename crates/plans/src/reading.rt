@@ -65,14 +65,14 @@ fn before_dot(stem: &[u8]) -> &[u8]
     &stem[..stem.len().saturating_sub(1)]
 }
 
-/// Returns whether a stem, a word up to its `*`, is a name and a dot, as `ann.`: turns of one thread alone.
+/// Returns whether a stem, a word up to its `*`, is a name and a dot, for example `ann.`: turns of one thread alone.
 fn is_alone(stem: &[u8]) -> bool
     ensures { result ≡ is_alone stem.now }
 {
     has_dot(stem) && is_name(before_dot(stem))
 }
 
-/// Returns whether a count as `*3` may follow this stem: it is `)`, `..`, a name, or a `?` and any bytes.
+/// Returns whether a count such as `*3` may follow this stem: the stem is `)`, `..`, a name, or a `?` and any bytes.
 fn may_repeat(stem: &[u8]) -> bool
     ensures { result ≡ may_repeat stem.now }
 {
@@ -86,7 +86,7 @@ fn is_spelled(word: &[u8]) -> bool
     may_repeat(stem_of(word)) || (!has_star(word) && (is_word(word, "(") || is_alone(word)))
 }
 
-/// Returns the count after the star, or `None` without a star. What isn't a count from 1 to 1,000,000 is `BadCount`.
+/// Returns the count after a word's star, or `None` if it has no star. `BadCount`: no count from 1 to 1,000,000 follows it.
 fn times_in(word: &[u8]) -> Result<Option<u32>, PlanFaultKind>
     ensures { result ≡ times_in word.now }
 {
@@ -99,7 +99,7 @@ fn times_in(word: &[u8]) -> Result<Option<u32>, PlanFaultKind>
     }
 }
 
-/// Returns the count, or 1 without one.
+/// Returns the count, or 1 if there is none.
 fn or_once(times: Option<u32>) -> u32
     ensures { result ≡ or_once times }
 {
@@ -116,8 +116,8 @@ fn is_numbered(letter: u8, name: &[u8]) -> bool
     !name.is_empty() && name[0] == letter && are_digits(name.len(), behind_first(name))
 }
 
-/// Returns the turn, or with `expiry` the expiry, of the thread whose number these digits spell. If it isn't below `count`, the
-/// number of threads, the fault is `NoThread`.
+/// Returns the turn, or with `expiry` the expiry, of the thread whose number these digits spell. `NoThread`: they spell no
+/// number below `count`, the number of threads, or are more than two.
 fn numbered(count: usize, expiry: bool, digits: &[u8]) -> Result<Chosen, PlanFaultKind>
     ensures { result ≡ numbered_by count expiry (number_in 2 63 digits.now) }
 {
@@ -179,7 +179,8 @@ fn expiry_named(names: &[&[u8]], name: &[u8]) -> Result<Chosen, PlanFaultKind>
     }
 }
 
-/// Returns the turn of the thread with this name, or else its expiry if an `x` precedes the name, as in `xann`.
+/// Returns the turn of the thread with this name, or else its expiry if an `x` precedes the name, as in `xann`. `NotNamed`:
+/// neither is a thread's name.
 fn named_by(names: &[&[u8]], name: &[u8]) -> Result<Chosen, PlanFaultKind>
     requires { length names.now ≤ 64 }
     ensures { result ≡ named_by (map name_seen names.now) name.now
@@ -194,7 +195,7 @@ fn named_by(names: &[&[u8]], name: &[u8]) -> Result<Chosen, PlanFaultKind>
     }
 }
 
-/// Returns the choice that `t` or `x` and digits name, as `t2`, of `count` threads. Any other word has the fault `why`.
+/// Returns the choice that a word such as `t2` or `x2` names, of `count` threads. Any other word has the fault `why`.
 fn or_numbered(why: PlanFaultKind, count: usize, name: &[u8]) -> Result<Chosen, PlanFaultKind>
     ensures { result ≡ or_numbered (Err why) count name.now }
 {
@@ -207,7 +208,7 @@ fn or_numbered(why: PlanFaultKind, count: usize, name: &[u8]) -> Result<Chosen, 
     Err(why)
 }
 
-/// Returns the choice that a word names: by a thread's name, as `ann` or `xann`, or else by its number, as `t2` or `x2`.
+/// Returns the choice that a word names: by a thread's name (`ann`, `xann`), or else by its number (`t2`, `x2`).
 fn chosen_by(names: &[&[u8]], name: &[u8]) -> Result<Chosen, PlanFaultKind>
     requires { length names.now ≤ 64 }
     ensures { result ≡ chosen_by (map name_seen names.now) name.now }
@@ -228,7 +229,7 @@ fn make(times: Option<u32>, chosen: Chosen) -> Result<Word, PlanFaultKind>
     }))
 }
 
-/// Returns the word for turns of this thread alone, as `ann.`. An expiry, as `xann.`, is `BadWord`.
+/// Returns the word for turns of this thread alone, for example `ann.`. An expiry, for example `xann.`, is `BadWord`.
 fn alone(chosen: Chosen) -> Result<Word, PlanFaultKind>
     ensures { result ≡ alone chosen }
 {
@@ -241,7 +242,7 @@ fn alone(chosen: Chosen) -> Result<Word, PlanFaultKind>
     }))
 }
 
-/// Returns the word for choices by the seed that these digits spell, at most `times`. `BadSeed`: no number below 2^64.
+/// Returns the word for choices by the seed that `digits` spell, at most `times`. `BadSeed`: no number below 2^64 is spelled.
 fn seeded(times: Option<u32>, digits: &[u8]) -> Result<Word, PlanFaultKind>
     ensures { result ≡ seeded_by times (seed_in digits.now) }
 {
@@ -254,8 +255,8 @@ fn seeded(times: Option<u32>, digits: &[u8]) -> Result<Word, PlanFaultKind>
     }
 }
 
-/// Returns the word that `stem`, what precedes the star, and the count `times` after it mean, or what is wrong with the
-/// stem. The form of the word was checked before.
+/// Returns what a word means, or what is wrong with its stem: `stem` is what precedes its star, `times` the count after the
+/// star. The caller has checked the form of the word, so that a count follows only what may have one.
 fn meaning(names: &[&[u8]], stem: &[u8], times: Option<u32>) -> Result<Word, PlanFaultKind>
     requires { length names.now ≤ 64 }
     ensures { result ≡ meaning (map name_seen names.now) stem.now times }
@@ -281,7 +282,8 @@ fn meaning(names: &[&[u8]], stem: &[u8], times: Option<u32>) -> Result<Word, Pla
     make(times, chosen_by(names, stem)?)
 }
 
-/// Returns what a word of a plan means, as `ann*3` or `)*20`, or what is wrong: its form, then its count, then the rest.
+/// Returns what a word of a plan means, for example `ann*3` or `)*20`, or the first of its faults: in its form, then in its
+/// count, then in the rest.
 pub fn word_of(names: &[&[u8]], word: &[u8]) -> Result<Word, PlanFaultKind>
     requires { length names.now ≤ 64 }
     ensures { result ≡ word_of (map name_seen names.now) word.now }

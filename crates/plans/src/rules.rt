@@ -10,17 +10,18 @@ use rand_pcg::Pcg32;
 use std::alloc::{AllocError, Global};
 use thread_machine::Choice;
 
-/// Returns the number of 32 bits at place `k`, from 0, in the random sequence of a seed.
+/// Returns the random number of 32 bits at place `k`, from 0, in the stream of a seed.
 #[tactic(auto, unfolding(crate::specs::Rules::word_at))]
 fn word_at(seed: u64, k: u32) -> u32
     ensures { result ≡ word_at seed k }
 {
+    // A seed has many streams of numbers: this is stream 0.
     let mut words = Pcg32::new(seed, 0);
     words.advance(u64::from(k));
     words.next_word()
 }
 
-/// Returns the choice at place `word`, a random number, modulo the number of choices. `None`: there is no choice.
+/// Returns the choice that the random number `word` picks: at the place `word` modulo their count. `None`: `choices` is empty.
 fn picked(word: u32, choices: &[Choice]) -> Option<Choice>
     ensures { result ≡ picked word choices.now }
 {
@@ -40,7 +41,7 @@ fn turn_of(thread: u8) -> Choice
     }
 }
 
-/// Appends the choice, or nothing for `None`. `Err`: no memory.
+/// Appends the choice, or nothing for `None`. `Err`: out of memory.
 fn push_made(choices: &mut Vec<Choice>, choice: Option<Choice>) -> Result<(), AllocError>
     ensures { OnOk result (choices.new.items ≡ choices.old.items ++ cons_option choice []) }
 {
@@ -86,8 +87,8 @@ impl Player {
         None
     }
 
-    /// Returns the turn of the next thread, after the last one chosen and then from 0 on, that can take one. If none can,
-    /// returns the lowest thread's expiry that is possible, or `None`.
+    /// Looks for a thread that can take a turn, from the one after the last chosen thread on, and then from 0 on. Returns its
+    /// turn. If none can, returns the expiry of the lowest thread whose wait may time out. `None`: no wait may time out.
     #[tactic(auto, unfolding(crate::specs::Rules::turn_about))]
     fn turn_about(&self) -> Option<Choice>
         ensures { result ≡ turn_about self.now.after_last self.now.world }
@@ -124,7 +125,7 @@ impl Player {
         None
     }
 
-    /// Returns for each thread, in order of number, its turn if it is runnable, or its expiry if its wait may time out.
+    /// Returns for each thread, in order of number, its turn if it is runnable, or else its expiry if its wait may time out.
     fn able(&self, alloc: Global) -> Result<Vec<Choice>, AllocError>
         ensures { IfOk result (λ choices. choices.items ≡ able self.now.world) }
     {
@@ -135,7 +136,8 @@ impl Player {
         Ok(choices)
     }
 
-    /// Returns the next choice of `rule`, or `None` if it has none. `k` choices precede it: a seed takes its random number `k`.
+    /// Returns the next choice of `rule`, or `None` if it has none. `k` choices by the rule precede it: if the rule is a seed,
+    /// its random number `k` picks the choice.
     #[tactic(auto, unfolding(crate::specs::Rules::next_choice))]
     pub fn next_choice(
         &self,

@@ -18,7 +18,7 @@ fn choice_of(who: Chosen) -> Choice
 }
 
 impl Player {
-    /// Makes a choice `times` times. It stops if one is asked for when none of the 1,000,000 is left.
+    /// Makes a choice `times` times. It stops if one is asked for when no more choices are allowed.
     fn repeat(&mut self, choice: Choice, times: u32) -> Result<(), AllocError>
         ensures { OnOk result (self.new ≡ repeated times (chosen choice) self.old) }
     {
@@ -31,7 +31,7 @@ impl Player {
         Ok(())
     }
 
-    /// Makes choices by a rule, at most `most`. It stops if the rule has none, or one is asked for when none is left.
+    /// Makes choices by a rule, at most `most`. It stops if the rule has none, or one is asked for when no more are allowed.
     pub fn follow(&mut self, alloc: Global, rule: Rule, most: u32) -> Result<(), AllocError>
         ensures { OnOk result (self.new ≡ followed rule most 0 self.old) }
     {
@@ -47,7 +47,7 @@ impl Player {
         Ok(())
     }
 
-    /// Returns the most choices of a rule. Without a limit that is one more than are left, so that running out is noted.
+    /// Returns the most choices of a rule. Without a limit it is one more than are allowed, so that running out is noted.
     fn most_of(&self, most: Option<u32>) -> u32
         ensures { result ≡ most_of most self.now }
     {

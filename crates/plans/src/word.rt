@@ -21,7 +21,7 @@ pub struct Chosen {
 pub enum Step {
     /// This choice, so many times: `ann`, `x3`, `ann*3`
     Make { chosen: Chosen, times: u32 },
-    /// Choices by a rule, so many at most: all that there are, where no number is given.
+    /// Choices by a rule, at most `most` of them. `None`: as many as the rule has.
     Follow { rule: Rule, most: Option<u32> },
 }
 

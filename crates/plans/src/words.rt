@@ -105,7 +105,7 @@ impl Words {
     }
 }
 
-/// Returns the first of `numbers` if the word's part `takes` a number, or else 0. Of an empty list it is 0, too.
+/// Returns the first of `numbers` if the word's part `takes` a number. If it takes none, or the list is empty, returns 0.
 fn taken_number(takes: bool, numbers: &[u32]) -> u32
     ensures { result ≡ taken_of takes numbers.now }
 {
@@ -116,7 +116,7 @@ fn taken_number(takes: bool, numbers: &[u32]) -> u32
     }
 }
 
-/// Returns the first of `seeds` if the word's part `takes` a seed, or else 0. Of an empty list it is 0, too.
+/// Returns the first of `seeds` if the word's part `takes` a seed. If it takes none, or the list is empty, returns 0.
 fn taken_seed(takes: bool, seeds: &[u64]) -> u64
     ensures { result ≡ taken_of takes seeds.now }
 {

@@ -1,5 +1,5 @@
-//! The entries for lines on standard error, exit statuses, exceptions, what a trace says, what the program reads and writes, and
-//! what Java has, a file for each group.
+//! The entries for lines on standard error, exit statuses, exceptions, what a trace says, what the program reads and writes,
+//! and what Java has, a file for each group.
 
 /// What a place is called in a pattern.
 macro_rules! counted {
@@ -17,8 +17,8 @@ macro_rules! counted {
     };
 }
 
-/// Entries of one kind of words, each with its number, and with a place before or after it if it has one: what is wrong, what is
-/// allowed there, and a command that makes it.
+/// Entries of one kind of words, each with its number, and with a place before or after the number if it has one: what is
+/// wrong, what is allowed there, and a command that leads to it.
 macro_rules! numbered {
     ($before:literal, $kind:literal, $more:literal; $(
         $($first:ident)? $number:literal $($last:ident)? $(| $name:literal)?: $means:literal, $helps:literal, $example:literal;
@@ -39,8 +39,8 @@ macro_rules! numbered {
     };
 }
 
-/// Entries of other words: the words of the line, where the documents say more, and the patterns; then what is wrong, what is allowed
-/// there, and a command that makes it.
+/// Entries of other words: the words of the line, where the documents say more, and the patterns; then what is wrong, what is
+/// allowed there, and a command that leads to it.
 macro_rules! entries {
     ($($told:literal, $more:literal, $([$($asked:literal)+])+: $means:literal, $helps:literal, $example:literal;)+) => {
         [$(Entry {

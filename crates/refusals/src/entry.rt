@@ -18,7 +18,7 @@ pub struct Entry {
     pub means: &'static str,
     /// What is allowed there.
     pub helps: &'static str,
-    /// A command that makes it, or else `none` and why.
+    /// A command that leads to it, or else `none` and why.
     pub example: &'static str,
     /// Where the documents say more.
     pub more: &'static str,

@@ -45,7 +45,7 @@ fn place_in_words(asked: &'static str, word: &str) -> Option<Place>
 }
 
 /// Matches words with a pattern, where `_` is any word and `..` any rest. Returns None if they don't fit, `Some(None)` if they
-/// fit and name no place, and else `Some` of their place, as line 3.
+/// fit and name no place, and else `Some` of their place, for example line 3.
 fn fitted(pattern: &[&'static str], words: &[&str]) -> Option<Option<Place>>
     ensures { MatchOption result ((place : Option Place) → Fits (texts pattern.now) (texts words.now) place → ⊥)
         (Fits (texts pattern.now) (texts words.now)) }
@@ -56,6 +56,7 @@ fn fitted(pattern: &[&'static str], words: &[&str]) -> Option<Option<Place>>
         [asked, pattern @ ..] => match words {
             [word, words @ ..] if is_place(asked) => {
                 let place = place_in_words(asked, word)?;
+                // A pattern names one place at most: the rest only has to fit.
                 fitted(pattern, words)?;
                 Some(Some(place))
             }
@@ -112,7 +113,7 @@ fn question_among(tables: &[&[Entry]], words: &[&str]) -> Option<Question>
     }
 }
 
-/// Returns the words after `refused`, or all of them.
+/// Returns the words after `refused` if that is the first word, or else all words.
 fn without_refused<'a, 'b>(words: &'b [&'a str]) -> &'b [&'a str]
     ensures { texts result.now ≡ without_refused (texts words.now) }
 {
@@ -122,8 +123,8 @@ fn without_refused<'a, 'b>(words: &'b [&'a str]) -> &'b [&'a str]
     }
 }
 
-/// Returns which entry of these tables the words of a line ask for, and the place that they name. None if they fit none. A
-/// place may be left out, and so may the word `refused`.
+/// Returns the first entry of these tables that the words of a line ask for, with their place. None if they ask for none. The
+/// line may begin with the word `refused`, which no pattern has.
 pub fn question_of(tables: &[&[Entry]], words: &[&str]) -> Option<Question>
     ensures { MatchOption result ((q : Question) → AsksFor tables.now (texts words.now) q → ⊥)
         (AsksFor tables.now (texts words.now)) }

@@ -1,6 +1,6 @@
 //! The entries of the words of the language: of the rows, and of what begins with a dot.
 
-/// What an operand can be that isn't a register, by the letter that stands for it, behind what is said of the registers.
+/// What an operand that isn't a register can be, by the letter that stands for it. The text about the registers precedes it.
 macro_rules! other_operand {
     ($registers:literal n) => {
         concat!($registers, "n: a number, -2147483648 to 2147483647")
@@ -53,8 +53,8 @@ macro_rules! operands {
     };
 }
 
-/// The entries of rows: a row's word and its operands, as the documents write them, what it is in Java, what a trace shows of it, what
-/// it does, and an example.
+/// The entries of rows: a row's word and its operands, as the documents write them, what it is in Java, what a trace shows of
+/// it, what it does, and an example.
 macro_rules! rows {
     ($($word:tt $($operand:ident)*: $java:literal, $event:literal, $means:literal, $example:literal;)+) => {
         [$(WordEntry {

@@ -49,7 +49,7 @@ pub struct WordEntry {
 }
 
 impl WordEntry {
-    /// Writes the whole entry, its example last, so that it can be played from there on.
+    /// Writes the whole entry. Its example is last, so that a person can copy all that follows, and play it.
     pub fn push<W: Sink>(self, output: &mut W) -> Result<(), Failed>
         ensures bytes { OnOk result (Appends (W.written output.old) (W.written output.new) (word_text (self))) }
         ensures failed { OnErr result (IsTrue (W.has_failed output.new)) }

@@ -9,13 +9,13 @@ const REFUSE_ONE: usize = 7_000_000;
 /// A request of this size plus n: refuse the nth request and all that follow.
 const REFUSE_ALL: usize = 7_100_000;
 
-/// Ends it. This request is refused if one was refused since it began.
+/// Refuse nothing more. This request is refused if a request was refused since the last `REFUSE_ONE` or `REFUSE_ALL`.
 const END: usize = 7_200_000;
 
-/// From here on blocks are counted.
+/// Note how many blocks of memory are in use.
 const COUNT: usize = 7_200_001;
 
-/// This request is refused if there are more or fewer blocks than at `COUNT`.
+/// This request is refused if more or fewer blocks are in use than at the last `COUNT`.
 const COMPARE: usize = 7_200_002;
 
 /// Requests a block of `size` bytes, which only tells the library something. Returns whether the library refuses it.

@@ -10,14 +10,14 @@ use thread_machine::{Choice, Machine};
 use trace_text::run::run_text;
 use trace_text::state::state_text;
 
-/// Two threads meet at a phaser and put out what they got.
+/// Two threads meet at a phaser and put out the phase that follows.
 pub const MEETING: &[u8] =
     b".phaser p 2\n.thread a main\n.thread b main\nmain: paaa r0 p\nout r0\nhalt\n";
 
-/// A schedule of it, until both have ended.
+/// A schedule of the meeting, until both threads have ended.
 pub const SCHEDULE: &[u8] = b"t0 t1 t0*3 t1*2";
 
-/// A turn of its first thread.
+/// A turn of the meeting's first thread.
 pub const FIRST: Run = Run {
     choice: Choice {
         thread: 0,
@@ -26,7 +26,7 @@ pub const FIRST: Run = Run {
     times: 1,
 };
 
-/// A turn of its second thread.
+/// A turn of the meeting's second thread.
 pub const SECOND: Run = Run {
     choice: Choice {
         thread: 1,
@@ -35,7 +35,7 @@ pub const SECOND: Run = Run {
     times: 1,
 };
 
-/// The turns until all have ended. The fourth and the sixth put a value out.
+/// The meeting's turns until both threads have ended. The fourth and the sixth put a value out.
 pub const TURNS: [Run; 7] = [FIRST, SECOND, FIRST, FIRST, FIRST, SECOND, SECOND];
 
 /// Returns the image of a text. Any fault counts as out of memory, since the text has none.

@@ -38,7 +38,8 @@ pub fn event(trial: Trial) -> Tried {
     Ok(line_answer(answered, text.as_slice(), b"abc7 t0 5 = -5 +p0 1\n"))
 }
 
-/// Tries `refusal_line`, which appends the line of choice 8 to a full text. If memory is refused, the text is as before.
+/// Tries `refusal_line`, which appends the line of choice 8, of no thread (`None`), to a full text. If memory is refused, the
+/// text is as before.
 pub fn refusal(trial: Trial) -> Tried {
     let mut text = full_text(trial.alloc)?;
     trial.begin();

@@ -16,7 +16,8 @@ fn is_beginning(runs: &[Run]) -> bool {
     runs.len() <= 9
 }
 
-/// Tries `Reader::feed`, and again with memory: after `Memory` it has the runs of some first tokens, and stays at `Memory`.
+/// Tries `Reader::feed` of `TOKENS`, and feeds them again with memory. After `Memory` the list has the runs of some first
+/// tokens, and the reader returns `Memory` again.
 pub fn feeding(trial: Trial) -> Tried {
     let mut runs = Vec::new(trial.alloc);
     let mut reader = Reader::new();

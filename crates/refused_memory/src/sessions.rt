@@ -65,7 +65,7 @@ pub fn going(trial: Trial) -> Tried {
     Ok(answer.provided(goes_on(trial.alloc, &mut debugger, count)?))
 }
 
-/// A name, a line for `Debugger::command` after three choices, its reply, and how many choices are played after it.
+/// A name, a line for `Debugger::command` after three choices, its reply, and how many choices have been played then.
 pub type Command = (&'static str, &'static [u8], &'static [u8], usize);
 
 /// The commands that are tried.
@@ -86,7 +86,7 @@ t1 1 runs 0 regs 1 0 0 0 0 0 0 0 stack out\np0 1 2 0 2\n",
     ("no command", b"g t0 t64", b"?\n", 3),
 ];
 
-/// Tries `Debugger::command` with the line of `command`: without memory it returns `Memory`, or the reply of `g` says so.
+/// Tries `Debugger::command` with the line of `command`. If memory is refused, it returns `Memory`, or `g` replies so.
 pub fn commanding(trial: Trial, command: &Command) -> Tried {
     let (_, line, wanted, behind) = *command;
     let mut debugger = debugger_after(trial.alloc, 3)?;
@@ -97,8 +97,8 @@ pub fn commanding(trial: Trial, command: &Command) -> Tried {
     Ok(answer.provided(goes_on(trial.alloc, &mut debugger, count)?))
 }
 
-/// Judges a command's result and its `reply`, which is whole or empty. Also returns how many choices have to be played after
-/// it: `behind`, or 3 as before if memory was refused, but 5 if `g` came to its second value.
+/// Judges a command's result and its `reply`, which is whole or empty. Also returns how many choices should have been
+/// played then: `behind`, or 3 as before if memory was refused, but 5 if `g` was refused it for its second value put out.
 fn command_answer(
     answered: Result<bool, CommandFault>,
     reply: &[u8],

@@ -8,17 +8,17 @@ use std::io;
 /// The result of all trials of a call.
 #[derive(Clone, Copy)]
 enum Outcome {
-    /// So many requests were refused in turn. Each time the call was right, or reported out of memory (`memory`).
+    /// So many requests were refused in turn. Each time the call was right, or reported out of memory (`memory` times).
     Refused { requests: u16, memory: u16 },
-    /// With this request refused it did neither, or left blocks, or its requests had no end.
+    /// With this request refused the call did neither, or left blocks of memory in use, or its requests had no end.
     Wrong(u16),
 }
 
-/// Requests of one call that are refused at most.
+/// The most requests of one call that are refused in turn.
 const MOST: u16 = 60_000;
 
-/// Tries a call with its first request for memory refused, then its second, and so on, until it makes no more: with `all` each
-/// with all later ones. A wrong answer ends this, and so do blocks of memory that are still in use.
+/// Tries a call with its first request for memory refused, then its second, and so on, until it makes no more. With `all` the
+/// later requests are refused, too. A wrong answer ends the sweep, and so do blocks of memory that are still in use.
 fn swept<F: Fn(Trial) -> Tried>(alloc: Global, all: bool, call: &F) -> Outcome
     requires { F.IsAlwaysCallable call.now }
 {
@@ -38,7 +38,7 @@ fn swept<F: Fn(Trial) -> Tried>(alloc: Global, all: bool, call: &F) -> Outcome
                 let requests = request - 1;
                 return Outcome::Refused { requests, memory };
             }
-            // the kit's lists ask again for as much where they are refused
+            // A `Vec` asks again for as much when it is refused, so a call may be right though a request was refused.
             (Ok(Answer::Right), true) => {}
             (Ok(Answer::Memory), true) => memory = memory.saturating_add(1),
             _ => return Outcome::Wrong(request),
@@ -94,7 +94,7 @@ impl<'a> Trials<'a> {
         }
     }
 
-    /// Writes the result of a call as one line. It names the call and `which` requests were refused, unless none was.
+    /// Writes the result of a call as one line, with the call's name. If requests were refused, the line says `which`.
     fn write(&self, name: &str, which: &str, outcome: Outcome) -> io::Result<()> {
         let came = match outcome {
             Outcome::Refused { requests: 0, .. } => {

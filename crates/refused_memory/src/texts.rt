@@ -17,7 +17,7 @@ const LISTING: &[u8] =
     b".phaser p0 2 onadvance #2\n.phaser p1 1 parent #0\n.barrier b0 1 action #1\n\
 .thread t0 #0\nsts r1 #0\ncawait r0 #0\nhalt\n";
 
-/// The state of its machine before the first choice.
+/// The state of the machine of `TEXT` before the first choice.
 const AT_FIRST: &[u8] = b"state 0 0 live\nt0 0 runs 0 regs 0 0 0 0 0 0 0 0 stack out\n\
 p0 0 3 0 3\np1 0 1 0 1\nb0 0 0\n";
 

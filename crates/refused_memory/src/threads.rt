@@ -73,8 +73,8 @@ fn leads(
     Ok(record.schedule() == schedule && leads_to(alloc, text, schedule, record.machine())?)
 }
 
-/// Tries to take `choice` after `turns`, which makes the record `schedule`. After `Memory` the record is as before, without the
-/// last three bytes (the token and the space before it), and then takes the choice.
+/// Tries to take `choice` after `turns`: the record is then `schedule`. After `Memory` the record is still without the last
+/// three bytes (the token and the space before it), and takes the choice when it is tried again.
 fn taking(trial: Trial, text: &[u8], turns: &[Run], choice: Choice, schedule: &[u8]) -> Tried {
     let mut record = Journaled::new(trial.alloc, program_of(trial.alloc, text)?, 1000)?;
     for turn in turns {
@@ -126,8 +126,8 @@ pub fn sharing(trial: Trial) -> Tried {
     })
 }
 
-/// Tries `run_live`: its schedule has only steps, which lead to its machine's state. After `Memory` it still has only steps.
-/// `Spawn` counts as `Memory`.
+/// Tries `run_live`: its schedule has only steps, which lead to its machine's state. After `Memory` the schedule so far has
+/// only steps. `Spawn`, for a thread that can't be started, counts as `Memory`.
 fn running<R: Threads + Wait + Sync>(rt: &R, trial: Trial) -> Tried {
     let alloc = trial.alloc;
     let program = program_of(alloc, MEETING)?;

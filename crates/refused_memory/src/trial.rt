@@ -10,7 +10,7 @@ use std::alloc::{AllocError, Global};
 pub enum Answer {
     /// What it returns if no memory is refused.
     Right,
-    /// That memory was refused; what stands is what is promised then.
+    /// That memory was refused. What the call promises for this case is true.
     Memory,
     /// Anything else.
     Wrong,
@@ -23,11 +23,11 @@ impl Answer {
     }
 }
 
-/// The answer of a try, or that anything else than the call is out of memory, which counts as `Wrong`.
+/// The answer of a try. `Err`: something else than the call is out of memory, which counts as `Wrong`.
 pub type Tried = Result<Answer, AllocError>;
 
-/// A call that is tried once. First what it needs is made. Only the call comes between `begin` and `end`. After it, its result
-/// and what is true then are checked. So memory is refused to nothing but the call.
+/// A call that is tried once. What the call needs is made before `begin`. Its result, and what is true then, are checked after
+/// `end`. Only the call comes between them, so memory is refused to nothing else.
 #[derive(Clone, Copy)]
 pub struct Trial {
     pub alloc: Global,
@@ -42,7 +42,8 @@ impl Trial {
         self.alloc
     }
 
-    /// Has the library refuse nothing more, and returns `answered`, the call's result. So no later request is refused.
+    /// Has the library refuse nothing more, and returns `answered`, the call's result. The library's answer is
+    /// dropped, since `swept` asks again whether a request was refused.
     pub fn end<T>(&self, answered: T) -> T
         ensures { result ≡ answered }
     {

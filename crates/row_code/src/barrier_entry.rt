@@ -10,8 +10,8 @@ use crate::read_fields::{i32_at, target_at, u16_at, zero_at};
 use crate::write_fault::WriteFault;
 use byte_ports::Sink;
 
-/// Returns the action's first row: `value` if `flag` is 1, and `None` if both are 0: there is no action. Otherwise returns the
-/// fault of the flag's field, at `at`, or of the field of `value`, after it.
+/// Returns the action's first row: `value`, if `flag` is 1. `None`: both are 0, so there is no action. Otherwise returns the
+/// fault of a field: of the flag's, at the place `at`, or of the value's, two bytes later.
 #[tactic(auto, unfolding(crate::specs::Reading::action_at))]
 fn action_at(at: usize, flag: u16, value: i32) -> Result<Option<u16>, ImageFault>
     requires { at + 2 < 2 ^ 64 }

@@ -13,18 +13,18 @@ pub(crate) trait Entry: Copy {
     // How many bytes it has.
     ghost SIZE: { ℕ };
 
-    // The entry of a number in bytes, in a list that begins at a place of the file, or what is wrong. The first says
-    // whether the image may have rows with a timeout.
+    // The entry, or what is wrong, by these arguments: whether rows may have a timeout, where the list begins in the file,
+    // the number of the entry in the list, and its bytes.
     ghost reading: { Bool → ℕ → ℕ → List ℕ → Result Self ImageFault };
 
-    // Whether its fields are in their ranges, and its bytes.
+    // Whether its fields are in their ranges. `spelling`: its bytes.
     ghost fits: { Self → Type 0 };
 
     ghost spelling: { Self → List ℕ };
 
     const SIZE: usize;
 
-    /// Reads the entry of number `n`, or returns its fault. Its list begins at `start` in the file. `timed` allows timed rows.
+    /// Reads the entry of number `n`, or returns its fault. Its list begins at `start` in the file. `timed` allows a timeout.
     fn read(timed: bool, start: usize, n: u16, bytes: &[u8]) -> Result<Self, ImageFault>
         requires size { length bytes.now ≡ SIZE }
         requires place { start + 12 * n + 12 < 2 ^ 64 }
@@ -38,7 +38,8 @@ pub(crate) trait Entry: Copy {
         ensures failed { IsErr result ↔ IsTrue (W.has_failed sink.new) };
 }
 
-/// Reads `count` entries from `bytes`, which begin at the place `start` of the file. Returns the first fault.
+/// Reads `count` entries from `bytes`, which begin at the place `start` of the file. `timed` allows rows with a timeout.
+/// Returns the first fault if there is one.
 pub(crate) fn read_entries<E: Entry>(
     alloc: Global,
     timed: bool,

@@ -20,12 +20,12 @@ pub enum ImageFault {
     Extra,
     /// Memory was refused.
     Memory,
-    /// The magic is that of images with timed rows, and no row is one.
+    /// The first four bytes announce a row with a timeout, but no row has one.
     Version,
 }
 
 impl ImageFault {
-    /// Returns the number that the fault is reported with. `Memory` has none.
+    /// Returns the number that the fault is reported with. `None`: the fault is `Memory`, which has none.
     pub fn number(self) -> Option<u8>
         ensures { result ≡ image_number self }
     {

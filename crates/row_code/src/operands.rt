@@ -51,7 +51,7 @@ pub fn operands_at(fields: Fields) -> Operands
     }
 }
 
-/// Returns the row with this opcode and these operands, or `halt` if there is no such opcode.
+/// Returns the row with this opcode and these operands. An unknown opcode gives `halt`, of opcode 0: `decode` refuses it.
 #[inline(always)]
 pub fn row_with(opcode: u8, operands: Operands) -> Row
     ensures row { result ≡ row_with opcode operands }

@@ -21,7 +21,7 @@ pub fn i32_at(bytes: &[u8], i: usize) -> i32
     i32::from_le_bytes([bytes[i], bytes[i + 1], bytes[i + 2], bytes[i + 3]])
 }
 
-/// Returns `value`, the number in the field at `at`, if it can be a row's: 0 to 65535. Any other is the fault of this field.
+/// Returns `value`, the number in the field at `at`, if it can be a row's number, 0 to 65535. Any other is the field's fault.
 pub fn target_at(at: usize, value: i32) -> Result<u16, ImageFault>
     ensures { result ≡ target_at at value }
 {
@@ -31,7 +31,7 @@ pub fn target_at(at: usize, value: i32) -> Result<u16, ImageFault>
     }
 }
 
-/// Returns `value`, the number in the field at `at`, if it can be a phase's. A negative one is the fault of this field.
+/// Returns `value`, the number in the field at `at`, if it can be a phase's number. A negative one is the field's fault.
 pub fn phase_at(at: usize, value: i32) -> Result<i32, ImageFault>
     ensures phase { result ≡ phase_at at value }
     ensures fits { IfOk result (λ phase. IsCount phase) }

@@ -9,7 +9,7 @@ use crate::write_fault::WriteFault;
 use byte_ports::Sink;
 use instruction_table::{Row, is_timed};
 
-/// Returns row `n` as it was found, or its fault: there is none, or it has a timeout and the image may have no such row.
+/// Returns row `n`, `found` in its bytes, or its fault: the bytes encode none, or it has a timeout and the image may have none.
 fn row_or(timed: bool, n: u16, found: Option<Row>) -> Result<Row, ImageFault>
     requires { IfSome found (λ row. IsRow row) }
     ensures read { result ≡ row_or timed n found }

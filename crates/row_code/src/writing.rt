@@ -21,7 +21,7 @@ fn counts_of(image: &Image) -> Counts
     }
 }
 
-/// Returns the first 12 bytes of an image: its magic and its four counts.
+/// Returns the first 12 bytes of an image: its magic, which says whether a row has a timeout (`timed`), and its four counts.
 fn head_bytes(timed: bool, counts: Counts) -> [u8; 12]
     ensures { result ≡ magic timed ++ count_bytes counts }
 {

@@ -1,4 +1,5 @@
-//! A meeting, played with the calls of `headline`: what a schedule leaves and shows, and what is taken back.
+//! A meeting of two threads, played with the calls of `headline`: what a schedule leaves and shows, and what is taken back.
+//! The ports in memory have room enough, and none fails (`None`).
 ghost use Rattle.std.specs.Prelude.{◌≤◌};
 
 use crate::programs::{LISTED, MEETING, MEETING_RUN, TRACE, image_of, refused};
@@ -61,7 +62,7 @@ fn is_as_before(alloc: Global, machine: &mut Machine) -> Result<bool, Fail> {
     Ok(is_right && state_text(alloc, machine)?.as_slice() == before.as_slice())
 }
 
-/// Plays a turn, and then takes it back. Returns whether it was the second step, and only the first is left.
+/// Plays a turn, and then takes it back. Returns whether the turn was the second step, and only the first is left.
 fn leaves_one_step(machine: &mut Machine) -> bool {
     match step(machine, turn(1)) {
         Ok((_, undo)) => {
@@ -73,7 +74,7 @@ fn leaves_one_step(machine: &mut Machine) -> bool {
     }
 }
 
-/// Plays the six turns that are left, and takes all back. Returns whether there are as many events, and the state is as before.
+/// Plays the six turns that are left, and takes all back. Returns whether they made six events, and the state is as before.
 fn takes_six_back(alloc: Global, debugger: &mut Debugger) -> Result<bool, Fail>
     requires { 6 ≤ debugger.old.kept }
 {
@@ -99,7 +100,7 @@ fn six_steps_are_taken_back(rt: HostRuntime) -> Result<(), Fail> {
     Ok(())
 }
 
-/// Plays two choices, and takes back one. Returns whether no second one is taken back.
+/// Plays two choices, and takes back one. Returns whether this is done, and taking back a second one is refused.
 fn takes_one_back(debugger: &mut Debugger) -> bool {
     let run = Run {
         choice: turn(1),
@@ -122,7 +123,7 @@ fn a_session_steps_on_and_back(rt: HostRuntime) -> Result<(), Fail> {
     Ok(())
 }
 
-/// Checks that the text that has the meeting and its schedule writes the meeting's trace.
+/// Checks that `both_cmd` writes the meeting's trace, for a text with the meeting and its schedule.
 #[test]
 fn a_text_shows_its_run(rt: HostRuntime) -> Result<(), Fail> {
     let alloc = rt.alloc();

@@ -7,13 +7,13 @@ use std::alloc::{AllocError, Global};
 use std::test::Fail;
 use workbench::{asm_cmd, both_cmd, compare_cmd, debug_cmd, list_cmd, live_cmd, race_cmd, run_cmd};
 
-/// No case makes more calls on a port than these.
+/// How many calls of a port are made to fail in turn: more than any case makes.
 const CALLS: u32 = 60;
 
 /// The image of one thread whose one row is `halt`.
 const HALT: &[u8] = b"PBW1\0\0\0\0\x01\0\x01\0\0\0\0\0\0\0\0\0\0\0\0\0";
 
-/// What is called.
+/// The command that is called.
 #[derive(Clone, Copy)]
 enum Call {
     Both,
@@ -24,7 +24,7 @@ enum Call {
     Compare,
 }
 
-/// A call, what its inputs hold, and what it writes if no port fails.
+/// A command, what its inputs hold, and what it writes if no port fails.
 struct Case {
     call: Call,
     file: &'static str,
@@ -128,8 +128,8 @@ fn is_cut(case: &Case, came: &Came, failing: Port) -> bool {
     came.status == 5 && case.whole.starts_with(came.output.bytes()) && came.errors.bytes() == line
 }
 
-/// Returns whether the command of a case reports that the port `failing` failed, or else writes everything. If the first call
-/// of a port that it uses fails, it has to report this. A later one may never be made.
+/// Returns whether the command of a case reports that the port `failing` failed, or else writes everything. A command
+/// calls each port that it uses at least once, so it has to report a failure of call 0. A later call may never be made.
 fn is_right(alloc: Global, case: &Case, failing: Port, call: u32) -> bool {
     let Ok(came) = came_of(alloc, case, failing, call) else {
         return false;
@@ -139,7 +139,7 @@ fn is_right(alloc: Global, case: &Case, failing: Port, call: u32) -> bool {
     is_cut(case, &came, failing) || (may_be_whole && is_whole(case, &came))
 }
 
-/// Checks that a command reports each call of each port that fails, after a beginning of its output. None makes 60 calls.
+/// Checks that each command reports any call of any port that fails, after a beginning of its output.
 #[test]
 fn a_port_that_fails_at_any_call_is_reported(rt: HostRuntime) {
     for case in &CASES {
@@ -151,8 +151,8 @@ fn a_port_that_fails_at_any_call_is_reported(rt: HostRuntime) {
     }
 }
 
-/// Checks `live` and `race`. A real thread that waits for a second party is played until it is stuck. After a race of two
-/// threads that meet 1000 times, the phaser is in phase 1000.
+/// Checks `live` and `race`. A real thread that waits for a second party is played until it is stuck, long before its limit of
+/// 1000 steps. After a race of two threads that meet 1000 times, the phaser is in phase 1000.
 #[test]
 fn the_commands_of_threads_are_played(rt: HostRuntime) -> Result<(), Fail> {
     let text = b".phaser p 2\n.thread a main\nmain: paaa r0 p\nhalt\n";

@@ -1,7 +1,7 @@
 //! Tests by public calls, where no command of the program shows what is tested.
 //!
-//! The tests of the lowest crates call ports, packed words, trees of phasers, and the word that real threads share. The tests of
-//! runs cut a schedule anywhere, force threads into an order, and let any call of a port fail. They also test the calls of
+//! The tests of the lowest crates call ports, packed words, trees of phasers, and the word that real threads share. The tests
+//! of runs cut a schedule anywhere, force threads into an order, and let any call of a port fail. They also test the calls of
 //! `headline`.
 #![tactic(auto)]
 

@@ -40,7 +40,7 @@ fn machine_of(alloc: Global, text: &str, limit: u32) -> Result<Machine, Fail>
     Ok(Machine::new(alloc, program_of(alloc, text)?, limit)?)
 }
 
-/// Checks that no machine plays more than 1,000,000,000,000 choices, even if nearly all are idle.
+/// Checks that no machine plays more than 1,000,000,000,000 choices. Nearly all are idle, and don't count as steps (limit 9).
 #[test]
 fn idle_choices_end_at_the_most(rt: HostRuntime) -> Result<(), Fail> {
     let mut machine = machine_of(rt.alloc(), MEETING, 9)?;

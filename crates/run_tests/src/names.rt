@@ -1,8 +1,8 @@
-//! The names of a text, as no command shows them.
+//! What no command shows of a text's names: their hashes.
 use assembler::name_hash::NameHash;
 use std::hash::BuildHasher;
 
-/// Checks that a name has another hash in another text, here one more LF: so no text can be made in which names collide.
+/// Checks that a name has another hash in another text, here with one more LF. So nobody can choose names that collide.
 #[test]
 fn a_name_is_hashed_behind_its_text(rt: HostRuntime) {
     let name = b"a".as_slice();

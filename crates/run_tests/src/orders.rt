@@ -11,9 +11,9 @@ use thread_runner::{Ending, Gate, LiveRun, run_live};
 /// How often a gate looks before it gives up.
 const MOST_LOOKS: u32 = 100_000_000;
 
-/// The order in which threads take their first steps, as a schedule. A pass waits until, for every step that the script puts
-/// before the pass's own, the next pass of that step's thread has begun; so no thread can play for another. And each pass waits
-/// until the first passes of all threads below `meeting` have begun.
+/// A gate that forces the threads' first steps into an order: `order`, a schedule. A worker passes the gate before each step.
+/// Each pass waits until all steps before its own in `order` are done. A step counts as done when the next pass of its thread
+/// has begun. Each pass also waits until the first passes of all threads below `meeting` have begun.
 #[derive(Drop)]
 struct Script {
     order: &'static str,
@@ -33,7 +33,7 @@ impl Script {
         }
     }
 
-    /// Returns how many passes of a thread have begun. A thread after the last has none.
+    /// Returns how many passes of a thread have begun: 0 if its number is above 63.
     fn begun(&self, thread: u8) -> u32 {
         match self.begun.get(usize::from(thread)) {
             Some(begun) => begun.load(Ordering::SeqCst),
@@ -54,8 +54,8 @@ impl Script {
 }
 
 impl Gate for Script {
-    /// Notes that a pass of `thread` has begun, and waits for the meeting, and until the steps before it in the script are
-    /// done. That is when each other thread has begun one pass more than it has steps there.
+    /// Notes that a pass of `thread` has begun. Then waits for the first passes of the threads below `meeting`, and until the
+    /// steps before this one in `order` are done: each other thread has begun one pass more than it has steps there.
     fn pass(&self, thread: u8, step: u32) {
         if let Some(begun) = self.begun.get(usize::from(thread)) {
             begun.store(step.saturating_add(1), Ordering::SeqCst);
@@ -81,7 +81,7 @@ impl Gate for Script {
     }
 }
 
-/// Returns what comes of playing `text` live, held by `gate`. The gate mustn't have given up, and all threads have to end.
+/// Plays `text` live, with 1,000,000 steps at most, and held by `gate`. Fails if the gate gives up, or if not all threads end.
 fn run_of<R: Threads + Wait + Sync>(
     rt: &R,
     alloc: Global,
@@ -100,7 +100,7 @@ const TWO: &str = ".thread a m\n.thread b m\nm: ldi r0 1\nldi r0 2\nhalt\n";
 
 const THREE: &str = ".thread a m\n.thread b m\n.thread c m\nm: ldi r0 1\nldi r0 2\nhalt\n";
 
-/// The last thread to come doesn't wait, and the two others have one step more.
+/// The last thread to come doesn't wait. The two others have one step more: the end of their wait.
 const MEETING: &str = ".phaser p 3\n.thread a m\n.thread b m\n.thread c m\nm: paaa r0 p\nhalt\n";
 
 /// A program, and the order of its threads' steps, which is its schedule.
@@ -139,7 +139,7 @@ fn crowd(alloc: Global, threads: u8) -> Result<String, AllocError> {
     Ok(text)
 }
 
-/// Checks that 64 workers begin before any goes on. Each has two steps, and each but the last to arrive ends a wait: 191.
+/// Checks that 64 workers begin before any goes on. Each has two steps, and each but the last to arrive ends a wait: 128 + 63.
 #[test]
 fn sixty_four_workers_run_at_once(rt: HostRuntime) -> Result<(), Fail> {
     let text = crowd(rt.alloc(), 64)?;

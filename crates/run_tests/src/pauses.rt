@@ -12,7 +12,7 @@ use thread_runner::NoGate;
 use workbench::racing::pace::Pace;
 use workbench::racing::race;
 
-/// A program of one thread, which passes four times.
+/// A program of one thread. Its worker passes the gate before each of the three steps, and before it finds that all are done.
 const ONE: &str = ".thread a m\nm: ldi r0 1\nldi r0 2\nhalt\n";
 
 /// How often the worker of `ONE` passes.
@@ -20,7 +20,7 @@ const PASSES: u32 = 4;
 
 const SEED: u32 = 7;
 
-/// Notes the pauses before the first passes, and which step each pass tells.
+/// Notes of each of the first eight passes the pause before it, and the number of the step that the gate is told.
 #[derive(Drop)]
 struct Notes {
     passes: AtomicU32,
@@ -28,7 +28,7 @@ struct Notes {
     steps: [AtomicU32; 8],
 }
 
-/// Returns a number for a pause, to be kept in an atomic: 0 for none, twice the times for a yield, and an odd one for a spin.
+/// Returns a number for a pause, to be kept in an atomic: 0 for none, even for a yield, odd for a spin.
 fn number_of(pause: Pause) -> u32 {
     match pause {
         Pause::NoPause => 0,

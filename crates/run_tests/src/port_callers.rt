@@ -1,5 +1,5 @@
-//! A caller that works with any port, with its proof: what other crates can say of the bytes that they move, and of the side that
-//! failed.
+//! A caller that works with any port, with its proof: what other crates can say of the bytes that they move, and of the side
+//! that failed.
 ghost use Rattle.std.specs.Prelude.{◌≡◌, ℕ, List, length, IsTrue, IfOk};
 ghost use Rattle.std.specs.Io.KnownBytes.{Appends, Consumes};
 
@@ -34,7 +34,7 @@ fn copy_piece<S: Source, K: Sink>(
     }
 }
 
-/// The source's call that fails, the sink's, the fault of the second piece, and the bytes that have moved.
+/// The source's call that fails, the sink's call that fails, the fault of the second piece, and the bytes that have moved.
 static COPIES: [(Option<u32>, Option<u32>, Option<Fault>, &[u8]); 3] = [
     (None, None, None, b"barrie"),
     (Some(1), None, Some(Fault::Read), b"bar"),

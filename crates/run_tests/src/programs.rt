@@ -5,7 +5,7 @@ use row_code::Image;
 use std::alloc::Global;
 use std::test::Fail;
 
-/// Two threads meet at a phaser, and put out what they met.
+/// Two threads meet at a phaser, and put out the phase that follows.
 pub const MEETING: &str =
     ".phaser p 2\n.thread a main\n.thread b main\nmain: paaa r0 p\nout r0\nhalt\n";
 
@@ -21,7 +21,7 @@ pub const TRACE: &[u8] =
     b"1 t0 0 wait\n2 t1 0 = 1 +p0 1\n3 t0 0 = 1\n4 t0 1 out 1\n5 t0 2 end\n6 t1 1 out 1\n7 t1 2 end\n\
     state 7 7 all\nt0 2 ended 0 regs 1 0 0 0 0 0 0 0 stack out 1\nt1 2 ended 0 regs 1 0 0 0 0 0 0 0 stack out 1\np0 1 2 0 2\n";
 
-/// Returns the failure of a test by a call that failed: no fault has a `Debug` by which `?` could print it.
+/// Returns the failure of a test in which a call failed. `?` can't make it from a fault, since no fault has a `Debug`.
 pub fn refused() -> Fail {
     Fail::new("a call has failed")
 }

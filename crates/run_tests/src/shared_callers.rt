@@ -14,10 +14,10 @@ use std::sync::Wait;
 use std::test::Fail;
 use std::thread::{Threads, join};
 
-/// A phaser as it is made, and calls one after the other, each with its result and the word that it leaves.
+/// A phaser as it is made, and calls one after the other, each with its result and the packed state that it leaves.
 type Session = (u16, i32, Policy, &'static [(Call, Reply, u64)]);
 
-/// A termination stays; and of a phaser that goes on without parties nobody is left to arrive.
+/// A terminated phaser stays terminated. At a phaser that goes on without parties nobody can arrive.
 static SESSIONS: [Session; 9] = [
     (
         65535,
@@ -70,7 +70,7 @@ static SESSIONS: [Session; 9] = [
     ),
 ];
 
-/// Returns the result of `call` in one try, or `None` if another caller came first or it isn't one of these three calls.
+/// Returns the result of `call` in one try. `None`: another caller came first, or `call` isn't one of these three calls.
 fn tried(phaser: &SharedPhaser, party: &mut Party, call: Call) -> Option<Reply>
     requires { phaser_of party.old ≡ phaser.now }
     ensures { phaser_of party.new ≡ phaser.now }
@@ -186,7 +186,8 @@ fn closed_words(rt: HostRuntime) -> Result<(), Fail> {
     Ok(())
 }
 
-/// Has a thread wait for the end of phase 0 of one party, and another make `call`. Returns both results; None without memory.
+/// Has one thread wait for the end of phase 0, which has one party, and another make `call`. Returns both results. `None`: the
+/// phaser can't be made, since it is out of memory.
 fn released<R: Threads + Wait + Sync>(
     rt: &R,
     alloc: Global,

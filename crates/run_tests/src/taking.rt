@@ -5,8 +5,8 @@ use thread_machine::What;
 use thread_runner::{Ending, Journaled, TakeFault};
 
 /// A program, its limit of steps, what is taken in order, the record as text, and how the run has ended then. A turn or an
-/// expiry is its token. After it, `!` means that it isn't ready, `#` that the limit is reached, and `~` that the thread begins
-/// to wait.
+/// expiry is its token. After a token, `!` means that the choice isn't ready, `#` that the limit is reached, and `~` that the
+/// thread begins to wait.
 type Row = (
     &'static str,
     u32,

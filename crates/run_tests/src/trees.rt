@@ -35,9 +35,9 @@ enum Step {
     ArrivesLast(u8, i32, u16),
     /// The same, and the party leaves.
     LeavesLast(u8, i32, u16),
-    /// The end of a turned root's phase. If true, it terminates the root.
+    /// The end of the phase of a turned root: all parties have arrived. If true, it terminates the root.
     Finishes(u8, bool),
-    /// As many arrivals at a root as these parties end each phase from the first up to the other.
+    /// So many arrivals at a root end each phase, from the phase of the first number up to the one before the second.
     EndsEach(u8, u16, i32, i32),
     /// The termination of the phaser's tree, which has no result.
     Forces(u8),
@@ -85,7 +85,7 @@ fn is_planted(forest: &mut Forest, plan: Plan) -> bool
     forest.declare(parent, parties, policy, phase).is_ok()
 }
 
-/// Returns the forest of these phasers, or `None` if one is refused. It is a copy, so that copies are tested, too.
+/// Returns a forest of these phasers, copied so that copies are tested, too. `None`: one phaser is refused, or out of memory.
 fn planted(alloc: Global, plans: &[Plan]) -> Option<Forest>
     ensures { IfSome result (λ forest. AreAllFresh (phasers_of forest)) }
 {
@@ -115,7 +115,8 @@ fn arrives(forest: &mut Forest, id: u8, answer: Arrived) -> bool {
     }
 }
 
-/// Ends the phase of `root`, if that is a turned root that may end it; `ends` terminates it. Returns whether this was done.
+/// Ends the phase of `root`, if that is a turned root whose phase may end. With `ends` the root is terminated. Returns whether
+/// this was done. The guards are what the contract of `finish_turn` asks for.
 fn end_turned_phase(forest: &mut Forest, root: PhaserId, ends: bool) -> bool
     requires { root.0 < length forest.old }
     ensures ended { result ≡ true
@@ -146,7 +147,7 @@ fn ends(forest: &mut Forest, root: u8, parties: u16, phase: i32) -> bool {
     }
 }
 
-/// Makes `parties` arrivals at a root in each phase from `from` up to the one before `to`. Returns whether they end each.
+/// Makes `parties` arrivals at a root in each phase from `from` up to the one before `to`. Returns whether they end each phase.
 fn ends_each(forest: &mut Forest, root: u8, parties: u16, from: i32, to: i32) -> bool {
     for phase in from..to {
         if !ends(forest, root, parties, phase) {
@@ -405,7 +406,7 @@ fn what_is_to_come_comes_true(rt: HostRuntime) {
     }
 }
 
-/// The parties of nine lines arrive one after another, and the last ends the phase.
+/// The parties of the nine lines of `nine_lines` arrive one after another, and the last ends the phase.
 static NINE_ARRIVE: [Step; 13] = [
     Step::Arrives(7, Arrived::At(0)),
     Step::Arrives(14, Arrived::At(0)),
@@ -422,7 +423,8 @@ static NINE_ARRIVE: [Step; 13] = [
     Step::Shows(0, 1, 9, 0),
 ];
 
-/// Returns 64 phasers of a tree: 9 lines of 7 below the root, each the child of the one before. The last of a line has a party.
+/// Returns 64 phasers of a tree: 9 lines of 7 phasers below the root. In a line each is the child of the one before. The last
+/// of a line has a party, the others have none.
 fn nine_lines() -> [Plan; 64] {
     let mut plans = [Root(0); 64];
     for id in 1..64u8 {
@@ -484,7 +486,7 @@ static REFUSED: [(u8, i32, i32, DeclareFault); 6] = [
     (6, 1, 0, DeclareFault::TooMany),
 ];
 
-/// If a declaration has several faults, the first of the table's order is reported.
+/// Checks that a declaration with several faults reports the one that comes first in `REFUSED`.
 #[test]
 fn declarations_are_refused_in_order(rt: HostRuntime) {
     for (parent, parties, phase, fault) in &REFUSED {
@@ -494,7 +496,7 @@ fn declarations_are_refused_in_order(rt: HostRuntime) {
     }
 }
 
-/// A forest has at most 64 phasers.
+/// Checks that a forest has at most 64 phasers.
 #[test]
 fn a_full_forest_takes_no_more(rt: HostRuntime) {
     let answer = fault_of(rt.alloc(), &[Root(0); 64], None, 0, 0);

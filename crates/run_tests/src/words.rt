@@ -1,4 +1,4 @@
-//! Packed words, bit by bit, and the calls on them.
+//! Words, which are packed states of phasers, bit by bit, and the calls on them.
 use Answer::{At, Counted, Dead, Held, Is, NotThere, TooMany, Turned};
 use Call::{Advance, Arrive, Force, Register, Renew, Vacate};
 use packed_phaser::{Arrived, Registered, Word};
@@ -93,14 +93,14 @@ fn phases_begin(rt: HostRuntime) {
 /// A call on a word.
 #[derive(Clone, Copy)]
 enum Call {
-    /// To be in this phase.
+    /// The move to the start of this phase.
     Renew(i32),
-    /// The end of the phase, which may terminate the phaser.
+    /// The end of the phase. If true, it terminates the phaser.
     Advance(bool),
-    /// The end of a phase of nobody.
+    /// A turned phaser without parties becomes empty. It stays in its phase.
     Vacate,
     Force,
-    /// The arrival of a party, which may leave.
+    /// The arrival of a party. If true, it leaves.
     Arrive(bool),
     Register(u32),
 }
@@ -111,16 +111,17 @@ enum Answer {
     Is(u64),
     Counted(u64),
     Turned(u64),
-    /// It has joined in this phase.
+    /// The parties are registered, in this phase.
     At(u64, i32),
-    /// Terminated; the view.
+    /// The phaser is terminated, and has this view.
     Dead(i32),
     NotThere,
     TooMany,
     Held,
 }
 
-/// Nobody registers with the same word, even while the phase is ending; and too many goes before the wait for the phase's end.
+/// Registering 0 parties keeps the word, even while the phase is ending. `TooMany` comes before `Held`, which is the wait for
+/// the phase's end.
 static CALLS: [(u64, Call, Answer); 41] = [
     (0x900000000, Renew(10), Is(0xa00000001)),
     (0x900030001, Renew(10), Is(0xa00030003)),
@@ -189,7 +190,8 @@ fn registration(registered: Registered) -> Answer {
     }
 }
 
-/// Returns what `call` returns, or None if its contract forbids it: ends need a turned word, `vacate` also no parties.
+/// Returns what `call` returns. `None`: its contract forbids it. `advance` and `vacate` need a turned word, and `vacate` needs
+/// one without parties.
 fn answer_of(word: Word, call: Call) -> Option<Answer> {
     match call {
         Renew(phase) => Some(Is(word.renew(Phase::prevailing(phase)).raw())),

@@ -4,7 +4,7 @@ ghost use Rattle.schedule_reader.specs.FaultNumber.{schedule_number};
 /// What is wrong with a schedule. An offset counts the stream's bytes from 0.
 #[derive(Clone, Copy, PartialEq, Eq)]
 pub enum ScheduleFault {
-    /// A byte that isn't allowed there, or the end of a token that is incomplete.
+    /// The byte at this offset isn't allowed there, or a token ends there that isn't complete.
     Byte(u64),
     /// The thread's number, which begins at this offset, has a third digit or is above 63.
     Number(u64),
@@ -15,7 +15,7 @@ pub enum ScheduleFault {
 }
 
 impl ScheduleFault {
-    /// Returns the number that the fault is reported with. `Memory` has none.
+    /// Returns the number that the fault is reported with. `None`: the fault is `Memory`, which has none.
     pub fn number(self) -> Option<u8>
         ensures { result ≡ schedule_number self }
     {

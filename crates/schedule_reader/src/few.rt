@@ -1,4 +1,4 @@
-//! What a whole schedule names, as far as no list is needed to say it.
+//! How few runs a whole schedule has: what can be said of it without a list.
 ghost use Rattle.std.specs.Prelude.{◌≡◌, ◌≢◌, ◌+◌, ◌<◌, ◌≤◌, ◌∷◌, ◌++◌, List, ℕ, IfOk, IfErr, OnOk, Ok, Err, true, Some, None, length};
 ghost use Rattle.schedule_reader.specs.{declared.fault.ScheduleFault.TheVariants.Memory, Few.few_of, Few.with_ended};
 ghost use Rattle.schedule_reader.specs.Places.{IsLeft, IsPlace, ended_with, schedule_from};
@@ -15,7 +15,7 @@ pub enum Few {
     Nothing,
     /// One.
     One(Run),
-    /// Two or more: a list has room for them.
+    /// Two or more: only a list could hold them.
     More,
 }
 

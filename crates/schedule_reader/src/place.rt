@@ -15,7 +15,8 @@ const LAST_THREAD: u16 = 63;
 /// The most times that a token can repeat its choice.
 const MOST_TIMES: u64 = 1_000_000_000;
 
-/// Where a reader is, in numbers only. The offset at which a number begins is computed back from the present byte.
+/// Where in a token a reader is, and what it has read of the token. The offset at which a number begins isn't kept: it is the
+/// present offset less `digits`.
 #[derive(Clone, Copy)]
 pub enum Place {
     /// Between tokens.
@@ -43,7 +44,7 @@ pub fn is_blank(byte: u8) -> bool
 
 impl Place {
     /// Returns the place after the byte at this offset, which isn't a blank, or its fault. The clauses say that the place is
-    /// that of the grammar, and inside a token, of which one byte more is read at most (`spent`).
+    /// that of the grammar, that it is inside a token, and that at most one byte more of the token is counted (`spent`).
     pub fn with_byte(self, at: u64, byte: u8) -> Result<Place, ScheduleFault>
         requires place { IsPlace at self }
         ensures reading { (part : List ℕ) → piece_from self at (byte ∷ part)
@@ -218,7 +219,7 @@ fn times_digit(
     })
 }
 
-/// Returns the run of a token that ends with its thread's number: one choice, never `None`. Without a digit it is a fault.
+/// Returns the run of a token that ends with its thread's number: one choice, never `None`. No digit is a fault.
 fn end_thread(at: u64, expiry: bool, digits: u8, number: u8) -> Result<Option<Run>, ScheduleFault>
     requires digits { digits ≤ 2 }
     requires number { number ≤ 63 }

@@ -15,7 +15,7 @@ use thread_machine::Choice;
 /// The highest number that a thread can have.
 const LAST_THREAD: u8 = 63;
 
-/// Reads a schedule, a stream of bytes that comes in pieces. A token is complete when the blank after it has come, or `finish`.
+/// Reads a schedule, a stream of bytes that comes in pieces. A token is complete when a blank follows it, or at `finish`.
 /// After a fault every call returns that fault.
 #[derive(Drop)]
 pub struct Reader {
@@ -163,8 +163,9 @@ fn bytes_from(piece: &[u8], done: usize) -> &[u8]
     &piece[done..]
 }
 
-/// Reads the beginning of `rest`, of which the first byte has the offset `at`, from a place on: all single turns, each with its
-/// space, or else one byte. Returns the next place, and how many bytes were read. The clauses bound how many runs come of them.
+/// Reads the beginning of `rest`, of which the first byte has the offset `at`, from a place on. Between tokens it reads all
+/// single turns there, such as `t7`, each with its space: `read_turns` is fast. Otherwise it reads one byte. Returns the next
+/// place, and how many bytes were read. The clauses bound how many runs these bytes make.
 #[inline(always)]
 fn read_some(
     place: Place,
@@ -203,8 +204,8 @@ fn read_some(
     }
 }
 
-/// Reads the single turns, each with the space after it, that the bytes begin with. Returns how many bytes those are: 0 if the
-/// bytes don't begin so, or if the list is full. It is apart and doesn't allocate, so that its loop is short.
+/// Reads the single turns, each with the space after it, that the bytes begin with. Returns how many bytes those are: 0 if
+/// there is no such turn, or if the list is full. This function is apart and doesn't allocate, so that its loop is short.
 #[inline(never)]
 fn read_turns(rest: &[u8], runs: &mut Vec<Run>) -> usize
     ensures takes { (at : ℕ) → Takes (Ok result) runs.old.items runs.new.items

@@ -6,7 +6,7 @@ ghost use Rattle.schedule_reader.specs.{Joined.AreJoined, Schedule.IsRun, Schedu
 use std::alloc::{AllocError, Global};
 use thread_machine::Choice;
 
-/// The most times that a run can repeat its choice.
+/// The most times that a run can repeat its choice. A run with so many is full.
 const MOST_TIMES: u32 = 1_000_000_000;
 
 /// One token of a schedule: a choice, and how often it is made.
@@ -25,7 +25,7 @@ impl Run {
         Run { choice, times: 1 }
     }
 
-    /// Returns the run with this choice once more. `None`: it is a run of another choice, or it is full.
+    /// Returns the run with this choice once more. `None`: this is a run of another choice, or it is full.
     pub fn with(self, choice: Choice) -> Option<Run>
         requires { self.times ≤ 1000000000 }
         ensures { MatchOption result (self.choice ≡ choice → self.times ≡ 1000000000)
@@ -79,7 +79,7 @@ pub fn joined(alloc: Global, runs: &[Run]) -> Result<Vec<Run>, AllocError>
 }
 
 /// Appends a run's choice, as often as it is made, to runs in which equal neighbours are joined, and keeps them so. It pushes
-/// one by one, because the last run may become full on the way, and then a new one begins.
+/// the choices one by one, because the last run may become full on the way, and then a new one begins.
 fn push_run(runs: &mut Vec<Run>, run: Run) -> Result<(), AllocError>
     requires run { IsRun run }
     requires runs { All IsRun runs.old.items }

@@ -6,7 +6,8 @@ use crate::reader::Reader;
 use crate::run::Run;
 use std::alloc::Global;
 
-/// Returns the runs of a whole schedule, or its first fault. A fault that `feed` finds is returned again by `finish`.
+/// Returns the runs of a whole schedule, or its first fault. If `feed` finds a fault,
+/// `finish` returns it again. Only `Memory` is returned at once.
 pub fn read_schedule(alloc: Global, schedule: &[u8]) -> Result<Vec<Run>, ScheduleFault>
     requires { length schedule.now < 9223372036854775807 }
     ensures runs { IfOk result (λ runs.

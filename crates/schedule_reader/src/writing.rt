@@ -51,7 +51,7 @@ fn push_token(text: &mut String, run: Run) -> Result<(), AllocError>
     push_times(text, run.times)
 }
 
-/// Appends `*` and the count, if it is above 1.
+/// Appends `*` and the count, unless it is 1.
 fn push_times(text: &mut String, times: u32) -> Result<(), AllocError>
     ensures { OnOk result (string_bytes text.new ≡ string_bytes text.old ++ times_text times) }
 {

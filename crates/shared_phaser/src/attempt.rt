@@ -19,8 +19,8 @@ pub enum Attempt {
 }
 
 impl SharedPhaser {
-    /// Tries a call once: a load, and an exchange if the call changes the phaser. If another call came between, it is `Lost`. A
-    /// new phase or a termination changes the word's upper half: this wakes the waiters.
+    /// Tries a call once: loads the word, and exchanges it if the call changes it. If another call has changed it in between,
+    /// the try is `Lost`. A new phase or a termination changes the word's upper half: then the waiters are woken.
     #[inline(always)]
     pub(crate) fn attempt<C: Asked>(&self, party: &mut Party, call: Call) -> Attempt
         requires call { C.call ≡ call }

@@ -48,8 +48,8 @@ impl SharedPhaser {
         }
     }
 
-    /// Tries a call that never waits, at most `tries` times. `Raced`: another call was faster each time. `last` begins as any
-    /// word, that of an empty phaser: the first lost try replaces it.
+    /// Tries a call that never waits, at most `tries` times. `Raced`: another call was faster each time. `last` begins as 1,
+    /// the word of an empty phaser: any word would do, since the first lost try replaces it.
     fn within<C: Asked>(&self, party: &mut Party, call: Call, tries: u32) -> Result<Reply, Raced>
         requires call { C.call ≡ call }
         requires prompt { IsPrompt call }

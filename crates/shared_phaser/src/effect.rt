@@ -33,7 +33,7 @@ fn phase_ended(turned: Word, policy: Policy) -> Word
     turned.advance(ends)
 }
 
-/// Returns what `register` or `bulkRegister` does to a word. Its phase isn't ending, so never `Held`. 0 parties change nothing.
+/// Returns what `register` or `bulkRegister` does to a word. It isn't turned, so never `Held`. 0 parties change nothing.
 fn registration(word: Word, count: u32) -> Outcome
     requires { (record_of word).turned ≡ false }
     ensures effect { effect_of result ≡ registering count (register count (record_of word)) }

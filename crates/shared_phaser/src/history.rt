@@ -80,7 +80,7 @@ pub struct Known {
     pub joined: LinkedList<Kept>,
 }
 
-/// What the rule knows of a caller besides: what a join has told it and it hasn't seen yet, and whether it can still call.
+/// What the rule (`Law`) knows of a caller. `told`: what a join has told it and it hasn't seen yet. `live`: it can still call.
 pub struct View {
     pub known: Known,
     pub told: LinkedList<Entry>,

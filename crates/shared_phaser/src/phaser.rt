@@ -13,7 +13,7 @@ use phase_number::Phase;
 use std::alloc::Global;
 use std::marker::Model;
 
-/// A phaser that threads share by reference: one word, which changes by compare-and-exchange.
+/// A phaser that threads share by reference: one word, number 0 of its table, which changes by compare-and-exchange.
 #[derive(Drop)]
 pub struct SharedPhaser {
     pub(crate) table: CachePadded<Table<(), View, Setup, Law, Global>>,
@@ -103,7 +103,7 @@ impl SharedPhaser {
         ))
     }
 
-    /// Makes another caller, for another thread. It has seen what the first caller has.
+    /// Makes another caller, for another thread. The new caller has seen what the first one has.
     pub fn split(&self, first: &mut Party) -> Party
         requires first { first.old.known.number ≡ 0 }
         requires phaser { phaser_of first.old ≡ self.now }
@@ -116,7 +116,8 @@ impl SharedPhaser {
         }
     }
 
-    /// Takes in `other`, which can't call any more. The first caller keeps its calls, and has seen what either had seen.
+    /// Takes in `other`, which can't call any more. The first caller keeps the other's calls, and has seen what either had
+    /// seen.
     pub fn join(&self, first: &mut Party, other: Party)
         requires first { first.old.known.number ≡ 0 }
         requires phaser { phaser_of first.old ≡ self.now }

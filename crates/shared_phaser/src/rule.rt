@@ -16,14 +16,15 @@ impl TableRule<(), View, Setup> for Law {
     ghost first = { first_view };
 }
 
-/// The call that a step belongs to. Each call has to name it, because a load tells its rule no operands.
+/// The call that a load or an exchange belongs to. A type has to name it, because the rule of a load gets no operands.
 pub trait Asked {
     ghost use Rattle.shared_phaser.specs.declared.history.Call.{Call};
 
     ghost call: { Call };
 }
 
-/// `Brand` stands for any call: a function that passes it on picks the call in its proof. If none is picked, it is a look.
+/// `Brand` stands for any call: a function that passes `Brand` on picks the call in its proof. If none is picked, the call is a
+/// look.
 impl Asked for Brand {
     ghost use Rattle.shared_phaser.specs.declared.history.Call.TheVariants.{Look};
 

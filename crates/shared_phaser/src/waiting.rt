@@ -24,7 +24,7 @@ pub struct NotThere;
 /// The most parties that are few: they may all have a processor.
 const FEW: u64 = 4;
 
-/// How often a wait looks at the phase before it sleeps until one ends.
+/// How often a wait looks at the phase before it sleeps, among few parties. The next constant is for many.
 const LOOKS_AMONG_FEW: u32 = 96;
 
 const LOOKS_AMONG_MANY: u32 = 16;
@@ -57,7 +57,7 @@ fn rest_among(few: bool) {
 }
 
 impl SharedPhaser {
-    /// Announces a wait if `sleeps`, or else returns `None`. It comes before the try, so no later end of a phase is missed.
+    /// Announces a wait if `sleeps`, or else returns `None`. The caller then tries once more: so it misses no end of a phase.
     #[inline(always)]
     fn announced(&self, sleeps: bool) -> Option<Key<'_>> {
         if sleeps {
@@ -67,8 +67,8 @@ impl SharedPhaser {
         }
     }
 
-    /// Looks at the phase, the word's upper half, until it isn't `phase`, at most `looks_among` times. Returns whether it
-    /// still is. The registered parties, in bits 16 to 31, say whether they are few.
+    /// Looks at the phase, the word's upper half, until it isn't `phase`, at most `looks_among` times. Returns whether it still
+    /// is `phase`. The registered parties, in bits 16 to 31, say whether they are few.
     #[inline(always)]
     fn lingers(&self, phase: i32) -> bool {
         let phase = u64::from(phase.unsigned_abs());
@@ -83,8 +83,8 @@ impl SharedPhaser {
         true
     }
 
-    /// Rests between two tries of a wait. If the wait was announced (`key`), it sleeps until a phase has ended since then. Any
-    /// other looks at the phase for a while. Returns whether the next try is to be announced: the phase hasn't ended yet.
+    /// Rests between two tries of a wait. If the wait was announced (`key`), it sleeps until a phase has ended since then. If
+    /// not, it looks at the phase for a while. Returns whether to announce the next try: true if the phase still hasn't ended.
     #[inline(always)]
     fn rests<R: Wait>(&self, rt: &R, key: Option<Key<'_>>, call: Call) -> bool {
         if let Some(key) = key {

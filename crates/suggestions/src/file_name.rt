@@ -21,8 +21,8 @@ pub fn is_of_program(name: &str) -> bool {
         || name.ends_with(".img")
 }
 
-/// The nearest name so far, and in how many letters it differs: before the extension, and in all. A program's file is farther from
-/// another file than any that is none.
+/// The nearest name so far, and in how many letters it differs: before the extension, and in all. `of_all` is larger if one
+/// name is a program's and the other isn't.
 #[derive(Drop)]
 struct Nearest {
     name: Option<String>,
@@ -62,10 +62,11 @@ impl Nearest {
     }
 }
 
-/// Returns the name in a folder that is nearest to `name`. None if none is near, the folder can't be read, or there is no memory.
+/// Returns the name in a folder nearest to `name`. None if none is near, the folder can't be read, or there is no memory.
 fn nearest_in(rt: &HostRuntime, folder: &str, name: &str) -> Option<String> {
     let mut nearest = Nearest {
         name: None,
+        // In a near name fewer letters differ than this.
         of_stem: FAR.min(stem_of(name).len()),
         of_all: 0,
     };

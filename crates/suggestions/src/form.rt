@@ -34,7 +34,7 @@ fn push_each(text: &mut Vec<u8>, form: &str, is_example: bool) -> Result<(), All
     Ok(())
 }
 
-/// Returns the line `help: ..` with the form of a row or a directive, and of a row an example. None for other words.
+/// Returns the line `help: ..` with the form of a row or directive, and an example if a row has operands. None for other words.
 pub fn form_of(alloc: Global, word: &[u8]) -> Hint {
     let Some(entry) = word_entry(str::from_utf8(word).unwrap_or("")) else {
         return Ok(None);

@@ -93,7 +93,7 @@ fn has_argument(word: &[u8]) -> bool {
 }
 
 /// Returns the row or directive for the method of Java that a word calls. None if it calls none. `await` and
-/// `awaitAdvanceInterruptibly` may have a time.
+/// `awaitAdvanceInterruptibly` have another row if the call has a time.
 pub fn row_of(word: &[u8]) -> Option<&'static str> {
     match found_in(METHODS, method_in(word))? {
         "cawait" if has_argument(word) => Some("cawaitt"),

@@ -16,7 +16,7 @@ pub fn words_of(alloc: Global, line: &[u8]) -> Result<Vec<&[u8]>, AllocError> {
     Ok(words)
 }
 
-/// Returns the word of this number, from 0, of a line up to its comment. None if the line has fewer words.
+/// Returns word `number` of a line, from 0. The words of a comment don't count. None if the line has fewer words.
 pub fn word(line: &[u8], number: usize) -> Option<&[u8]> {
     before_comment(line)
         .split(|byte| is_blank(*byte))
@@ -24,7 +24,7 @@ pub fn word(line: &[u8], number: usize) -> Option<&[u8]> {
         .nth(number)
 }
 
-/// Returns the row's or the directive's word of a line: its first, or the one after its label. It is empty if there is none.
+/// Returns the word that begins the row or directive of a line, after its label if it has one. Empty if there is none.
 pub fn first_word(line: &[u8]) -> &[u8] {
     match word(line, 0) {
         Some(first) if !is_label(first) => first,

@@ -1,4 +1,4 @@
-//! Which row or declaration of a text makes that its program isn't loaded, and what helps there.
+//! Because of which row or declaration of a text its program isn't loaded, and what helps there.
 
 use crate::file_kind::is_whole_program;
 use crate::hint::{Hint, help};
@@ -36,7 +36,7 @@ fn last_line_with_row(text: &[u8]) -> u64 {
     last
 }
 
-/// Returns the kind and number of what a load fault is about: a declared thing, or a row, as `Target`. None if nothing is.
+/// Returns the kind and number of what a load fault is about: a declared thing, or a row, as `Target`. None for other faults.
 fn made_in(fault: LoadFault) -> Option<(OperandKind, u64)> {
     match fault {
         LoadFault::Target(Place::Row(row))
@@ -65,7 +65,8 @@ fn place_of_statement(text: &[u8], number: u64) -> Option<(u64, Option<WordPlace
     Some((number, statement(line, label)))
 }
 
-/// Returns the line's number and the part of it that a load fault is about. None in an image, or if it is about no line.
+/// Returns the number of the line that a load fault is about, and the part of it. None in an image, or if the fault is about no
+/// line. `FallsOff`, a program that could run on past its last row, is about the line of that row.
 pub fn place_of_load(
     alloc: Global,
     text: &[u8],
@@ -82,7 +83,7 @@ pub fn place_of_load(
 }
 
 /// Returns advice for a program that can't be loaded. `bytes` is its file, and `text` the part above a line `.run`. None unless
-/// the `.thread` lines are below `.run`, or the file is empty: for all else the entry of the fault says enough.
+/// the `.thread` lines are below `.run`, or the file is empty: for all else what `explain` says of the fault is enough.
 pub fn hint_at_load(alloc: Global, bytes: &[u8], text: &[u8], fault: LoadFault) -> Hint {
     let behind = bytes.get(text.len()..).unwrap_or(&[]);
     if matches!(fault, LoadFault::NoThread) && is_whole_program(behind) {

@@ -90,7 +90,7 @@ pub fn row_meant(alloc: Global, line: &[u8], word: &[u8]) -> Option<&'static str
     }
 }
 
-/// Returns what the language has in place of a line that makes or changes a thing, as `p = new Phaser(2)`, or None.
+/// Returns what the language has in place of a line that makes or changes a thing, as `p = new Phaser(2)`. None for others.
 fn in_place_of_made(words: &[&[u8]]) -> Option<&'static str> {
     words
         .iter()
@@ -119,7 +119,7 @@ fn helps_at_java_line(words: &[&[u8]], word: &[u8]) -> Option<&'static str> {
     }
 }
 
-/// Returns advice for an unknown word of these words of a line, where a row or directive should be. None if none is known.
+/// Returns advice for `word` of a line, which is unknown where a row or directive should be. None if no advice is known.
 fn helps_at_word(alloc: Global, text: &[u8], words: &[&[u8]], word: &[u8]) -> Option<&'static str> {
     let behind = match words {
         [first, second, ..] if *first == word => *second,
@@ -144,7 +144,7 @@ fn helps_at_word(alloc: Global, text: &[u8], words: &[&[u8]], word: &[u8]) -> Op
     }
 }
 
-/// Returns advice for a comma or a quotation mark in a word, and None without. `first` is its line's row or directive.
+/// Returns advice for a word with a comma at its end or a quotation mark, else None. `first` is its line's row or directive.
 fn helps_at_sign(first: &[u8], word: &[u8]) -> Option<&'static str> {
     helps! {
         word.ends_with(b",") && first == b".thread".as_slice() => AT_THREAD,

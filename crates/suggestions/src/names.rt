@@ -25,7 +25,7 @@ pub fn called(kind: OperandKind) -> (&'static str, &'static str) {
     }
 }
 
-/// Returns the letter that stands for a thing of this kind in the state, before its number. None if the state has no such.
+/// Returns the letter that stands for a thing of this kind in the state, before its number. None if the state shows none.
 pub fn letter_of(kind: OperandKind) -> Option<&'static str> {
     match kind {
         OperandKind::Thread => Some("t"),
@@ -75,10 +75,10 @@ pub fn first_line(text: &[u8], name: &[u8]) -> Option<u64> {
     Some((before as u64).saturating_add(1))
 }
 
-/// How many letters a method's name has at least that may be misspelt.
+/// The fewest letters of a method's name that is recognized although it is misspelt.
 const LEAST: usize = 5;
 
-/// Returns the row for a method of Java behind a row's first letter: `parr` for `parrive`. None for other words.
+/// Returns the row for a word that is a row's first letter and a method of Java: `parr` for `parrive`. None for other words.
 fn row_of_method_behind(word: &[u8]) -> Option<&'static str> {
     match word {
         [b'p' | b'c' | b'b', method @ ..] if method.len() >= LEAST => row_of(method),
@@ -157,6 +157,7 @@ pub fn nearest_option(
     let mut nearest = Nearest::to(word);
     for option in form_of(directive)
         .split(|byte| !byte.is_ascii_lowercase())
+        // The first two parts are the empty one before the dot, and the directive's name.
         .skip(2)
     {
         nearest = nearest.or(alloc, option, option, word)?;

@@ -62,7 +62,7 @@ impl<'a> Nearest<'a> {
     }
 }
 
-/// How many letters a word has at most that is near only to a name that no other is as near as.
+/// The most letters of a short word. A short word is near to a name only if no other name is equally near.
 pub const SHORT: usize = 3;
 
 /// Returns the nearest of these names; its `meant` is None if no name is near. For a word of up to three letters it is None,

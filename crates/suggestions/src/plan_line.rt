@@ -25,7 +25,8 @@ pub fn word_places(alloc: Global, line: &[u8]) -> Result<Vec<WordPlace>, AllocEr
     Ok(places)
 }
 
-/// Returns what is wrong with a plan's word by itself, for threads of these names. None if nothing is, or for a parenthesis.
+/// Returns what is wrong with a plan's word by itself, for threads of these names. None if nothing is, for a parenthesis, or if
+/// it is out of memory.
 pub fn fault_of_word(alloc: Global, names: &[&[u8]], word: &[u8]) -> Option<PlanFaultKind>
     requires { length names.now ≤ 64 }
 {

@@ -40,7 +40,7 @@ fn hint_at_name(alloc: Global, text: &[u8], wanted: OperandKind, word: &[u8]) ->
     }
 }
 
-/// Returns advice for an unknown name. If a thing of another kind has this name, it says so.
+/// Returns advice for an unknown name. If a thing of another kind has this name, the advice says so.
 fn hint_at_unknown(alloc: Global, text: &[u8], unknown: UnknownName, word: &[u8]) -> Hint {
     let UnknownName { wanted, given } = unknown;
     let Some(given) = given else {

@@ -8,13 +8,16 @@ use crate::plan_word::AT_TURN;
 pub enum Origin {
     /// Below the line `.run` of the program's file.
     Beside,
+    /// A file of its own.
     File,
+    /// Standard input.
     Standard,
-    /// A plan stands for it.
+    /// It was made from a plan.
     Plan,
 }
 
-/// Returns advice if a schedule is refused where `rest` begins; `before` is the byte before. None if the entry says enough.
+/// Returns advice if the schedule `bytes` is refused at `rest`, the end of a line. `before` is the byte before that. None if
+/// the entry of the fault says enough.
 fn helps_at(bytes: &[u8], before: Option<u8>, rest: &[u8], origin: Origin) -> Option<&'static str> {
     let byte = rest.first().copied().unwrap_or(0);
     let is_of_plan = !matches!(rest, [b't' | b'x'])

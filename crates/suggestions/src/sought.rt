@@ -53,7 +53,7 @@ fn asked_by_sentence(words: &[&str]) -> Option<&'static [&'static str]> {
         .and_then(|entry| entry.asked.first().copied())
 }
 
-/// Returns the word that `explain` knows for a thing with a number: `p0` for each phaser. None for other words.
+/// Returns what `explain` knows for a thing with a number: `p0` for each phaser, `schedule` for a choice. None for others.
 fn numbered_word(word: &str) -> Option<&'static str> {
     let letters = word.trim_end_matches(|letter: char| letter.is_ascii_digit());
     if letters.len() == word.len() {
@@ -142,7 +142,7 @@ fn is_about(question: &str, word: &str) -> bool {
 /// What is written in place of the questions if none is near.
 const ALL: &[u8] = b"explain                             all that you can ask\n";
 
-/// How many near questions are written at most, so that all is five lines.
+/// How many near questions are written at most. With the two lines before them, these are five lines.
 const MOST_LINES: usize = 3;
 
 /// Writes that `explain` doesn't know these words, and what can be asked: lines of `QUESTIONS` about them, or the word nearest

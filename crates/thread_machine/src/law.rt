@@ -26,8 +26,8 @@ pub fn a_higher_limit_changes_nothing_that_was_accepted()
 
 /// A law: no phase of a loaded program ends early, whichever choices were made before. If an accepted choice ends a phase,
 /// every party that registered directly with a phaser of the tree has arrived or left. The only exception is a tree in which a
-/// party arrived earlier when no directly registered party was left to arrive. A termination by force ends no phase. The laws
-/// that it calls are there for the proof.
+/// party arrived earlier when no directly registered party was left to arrive. A termination by force ends no phase. The two
+/// calls in the body only serve the proof.
 pub fn no_phase_ends_early(program: &Loaded)
     ensures declared { (image : Image) → IsProgramOf image program.now
         → NoPhaseEndsEarly program.now (declared_origin image.phasers) }

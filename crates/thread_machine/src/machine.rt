@@ -74,7 +74,7 @@ fn new_threads(alloc: Global, declared: &[DeclaredThread]) -> Result<Vec<Thread>
     Ok(threads)
 }
 
-/// Makes the stage of the program before the first choice. The first two calls only help to prove that it is sound.
+/// Makes the stage of the program before the first choice. The first two calls only help to prove that the stage is sound.
 fn first_stage(alloc: Global, program: &Loaded) -> Result<Stage, AllocError>
     ensures stored { IfOk result (λ stage. stage.phasers ≡ program.now.phasers) }
     ensures scene { IfOk result (λ stage. scene_of stage ≡ first_scene program.now) }
@@ -89,8 +89,8 @@ fn first_stage(alloc: Global, program: &Loaded) -> Result<Stage, AllocError>
 }
 
 impl Machine {
-    /// Makes the machine of a program, for at most `limit` effective steps. Later only a value that is put out needs memory.
-    /// The laws that it calls are there for the proof.
+    /// Makes the machine of a program, for at most `limit` effective steps. Later the machine allocates memory only for values
+    /// that threads put out. `each_program_is_whole` and `is_forest` only serve the proof.
     pub fn new(alloc: Global, program: Loaded, limit: u32) -> Result<Machine, AllocError>
         requires { limit ≤ 1000000000 }
         ensures { IfOk result (λ machine. world_of machine ≡ first_world program limit) }
@@ -120,8 +120,8 @@ impl Machine {
         })
     }
 
-    /// Plays one choice. An idle choice, the turn of a thread that isn't runnable or the expiry of a wait that can't expire,
-    /// only counts as a choice. `Memory` comes only at the row `out`.
+    /// Plays one choice. The turn of a thread that isn't runnable, or the expiry of a wait that can't expire, is idle: it is
+    /// only counted. `Memory` is returned only at the row `out`.
     #[inline(always)]
     pub fn step(&mut self, choice: Choice) -> Result<Event, StepFault>
         ensures { IsStep self.old choice result (kept_of choice self.old) self.new }
@@ -133,7 +133,8 @@ impl Machine {
         self.play(choice)
     }
 
-    /// Plays one choice: idle and common turns itself, others by `seldom`. It first checks the choices left.
+    /// Plays one choice: idle and common turns (`Stage::common_turn`) itself, all others by `seldom`. It first checks that a
+    /// choice is left.
     #[inline(always)]
     fn play(&mut self, choice: Choice) -> Result<Event, StepFault>
         requires there { choice.thread < length self.old.scene.threads }
@@ -163,7 +164,8 @@ impl Machine {
         }
     }
 
-    /// Plays a turn that isn't common, or an expiry. Its result has room here, in `told`, which a common turn doesn't need.
+    /// Plays a turn that isn't common, or an expiry. `seldom_step` writes the result to the variable `told`, which a common
+    /// turn doesn't need: so only `seldom` has it.
     #[inline(always)]
     fn seldom(&mut self, choice: Choice) -> Result<Event, StepFault>
         requires there { choice.thread < length self.old.scene.threads }
@@ -177,7 +179,8 @@ impl Machine {
         told
     }
 
-    /// Plays a turn that isn't common, or an expiry. `told` gets its result. Before, it holds the result of an idle choice.
+    /// Plays a turn that isn't common, or an expiry. `told` gets the result. The caller has put the result of an idle choice
+    /// into it, so that an idle choice writes nothing.
     #[inline(never)]
     fn seldom_step(&mut self, choice: Choice, told: &mut Result<Event, StepFault>)
         requires there { choice.thread < length self.old.scene.threads }
@@ -198,8 +201,8 @@ impl Machine {
         }
     }
 
-    /// Plays the turn of a thread that can take one, counts it, and writes the result to `told`. It is `Memory` if there is
-    /// none for `out`, and then nothing else changes.
+    /// Plays the turn of a thread that can take one, counts it, and writes the result to `told`. The result is `Memory` if
+    /// memory runs out at the row `out`. Then nothing else changes.
     fn turn(&mut self, choice: Choice, told: &mut Result<Event, StepFault>)
         requires there { choice.thread < length self.old.scene.threads }
         requires choices { self.old.choices < 1000000000000 }
@@ -320,7 +323,8 @@ impl Machine {
         self.stage.is_ready(&self.program, thread as usize)
     }
 
-    /// Returns whether a thread's timed wait can expire: it isn't runnable, and no thread runs the action of its barrier.
+    /// Returns whether a thread's timed wait can expire: the thread isn't runnable, and no thread runs the action of the
+    /// barrier that it waits at.
     pub fn can_expire(&self, thread: u8) -> bool
         requires { thread < length self.now.scene.threads }
         ensures { result ≡ can_expire thread self.now.program (scene_of self.now.scene) }

@@ -5,7 +5,7 @@ use std::marker::Model;
 /// as much as half a step.
 #[derive(Drop)]
 pub struct Undo {
-    /// Whether it was a turn or an expiry. For an idle choice nothing is saved, and the note says nothing.
+    /// Whether the choice was a step: a turn or an expiry. If it was idle, the note says nothing.
     pub(crate) is_turn: bool,
     pub(crate) note: SceneNote,
 }

@@ -67,8 +67,8 @@ impl Journaled {
         })
     }
 
-    /// Lets a thread's timed wait expire, and records it. It fails if it isn't the next to expire (`is_due`), at the limit of
-    /// steps, or without memory. The call of `has_few_threads` only helps the proof.
+    /// Lets a thread's timed wait expire, and records it. It fails if the wait isn't the next to expire (`is_due`), at the
+    /// limit of steps, or without memory. The call of `has_few_threads` only helps the proof.
     pub fn take_expiry(&mut self, thread: u8) -> Result<Event, TakeFault>
         requires { thread < length self.old.first.scene.threads }
         ensures played { IfOk result (λ event. record { world = recorded_world self.new; event = event }
@@ -115,6 +115,7 @@ impl Journaled {
                 push_choice(&mut self.schedule, choice);
                 Ok(event)
             }
+            // The thread exists, and the limit isn't reached: only memory can be missing.
             Err(_) => Err(TakeFault::Memory),
         }
     }
@@ -187,7 +188,7 @@ impl Journaled {
         }
     }
 
-    /// Makes the choice of the lowest thread that has one, and records it. The run isn't over, so it fails only without memory.
+    /// Makes the choice of the lowest thread that has one, and records it. The run isn't over: so only memory can be missing.
     #[tactic(auto, using(crate::proofs::Choosing::step_left))]
     pub fn take_next(&mut self) -> Result<Event, TakeFault>
         requires { ending_of (recorded_world self.old) ≡ None }
@@ -267,7 +268,7 @@ impl Journaled {
         (self.schedule, self.machine)
     }
 
-    /// Returns how the run has ended, or `None` if some choice can still take a step.
+    /// Returns how the run has ended. `None`: some choice can still take a step, and the limit isn't reached.
     pub fn ending(&self) -> Option<Ending>
         ensures { result ≡ ending_of (recorded_world self.now) }
     {

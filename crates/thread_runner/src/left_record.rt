@@ -9,8 +9,8 @@ use loader::Loaded;
 use std::alloc::Global;
 use std::marker::Model;
 
-/// The choices that a run had played when it was out of memory, as a schedule. Nothing but the run's own record becomes one,
-/// and all of it does. It is empty if there was no memory for a machine.
+/// The choices that a run had played when it was out of memory, as a schedule. Only a run's own record becomes such a value,
+/// and always the whole record. It is empty if there was no memory for a machine.
 #[derive(Drop)]
 pub struct LeftRecord {
     schedule: Vec<u8>,

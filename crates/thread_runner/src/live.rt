@@ -57,7 +57,7 @@ impl LiveState {
         !self.journaled.may_choose(thread) && !self.leaves(thread)
     }
 
-    /// Returns whether the worker of a thread waits, and notes this in `sleepers`. Its first call only helps the proof.
+    /// Returns whether the worker of a thread waits, and notes this in `sleepers`. `has_few_threads` only helps the proof.
     fn falls_asleep(&mut self, thread: u8) -> bool
         requires { thread < length self.old.journaled.first.scene.threads }
         ensures waits { result ≡ waits self.old.broken (recorded_world self.old.journaled) thread }
@@ -71,7 +71,7 @@ impl LiveState {
         waits
     }
 
-    /// Returns whether the worker of a thread sleeps, and needn't wait any longer. Its first call only helps the proof.
+    /// Returns whether the worker of a thread sleeps, and needn't wait any longer. `has_few_threads` only helps the proof.
     fn wakes(&self, thread: u8) -> bool
         requires { thread < length self.now.journaled.first.scene.threads }
         ensures { result ≡ wakes self.now.broken (recorded_world self.now.journaled) self.now.sleepers thread }
@@ -164,7 +164,7 @@ impl<O: Origin> Live<O> {
         }
     }
 
-    /// A law: every worker that sleeps has to wait. Its step changes nothing: it tells the proof what `woken` says.
+    /// A law: every worker that sleeps has to wait. The read of a field tells the proof what `woken` says.
     fn none_wakes(&self)
         ensures { some_wakes self.now.state.broken (recorded_world self.now.state.journaled) self.now.state.sleepers ≡ false }
     {
@@ -184,7 +184,8 @@ impl<O: Origin> Live<O> {
     }
 
     /// Lets a worker that needn't wait make its thread's choice, or stop, and wakes the others if one of them needn't wait any
-    /// longer. Returns false if the worker has to stop: the run or its thread is over, or memory runs out, which breaks it off.
+    /// longer. Returns false if the worker has to stop: the run or its thread is over, or memory runs out, which breaks the run
+    /// off.
     pub fn turn(&mut self, thread: u8, changed: &Condvar) -> bool
         requires there { thread < length O.first.scene.threads }
         requires waits { waits self.old.state.broken (recorded_world self.old.state.journaled) thread ≡ false }

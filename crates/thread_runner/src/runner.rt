@@ -167,7 +167,7 @@ fn run_of<O: Origin + Send + Sync, R: Threads + Wait + Sync, G: Gate + Sync>(
     end(lock.into_inner())
 }
 
-/// Returns the schedule, the machine and the ending of a record whose run has ended so.
+/// Takes the schedule and the machine out of a record whose run has ended with `ending`.
 fn live_run(journaled: Journaled, ending: Ending) -> LiveRun
     requires { ending_of (recorded_world journaled) ≡ Some ending }
     ensures record { IsRecordOf journaled.first result.schedule.items (world_of result.machine) }
@@ -201,7 +201,7 @@ pub fn run_live<R: Threads + Wait + Sync, G: Gate + Sync>(
         Ok(journaled) => journaled,
         Err(left) => return Err(LiveFault::Memory(left)),
     };
-    // `Brand` names its origin, which only contracts use.
+    // `Brand` stands for the run's `Origin`, which only contracts use.
     match run_of::<Brand, R, G>(rt, journaled, gate) {
         Ok((journaled, ending)) => Ok(live_run(journaled, ending)),
         Err(fault) => Err(fault),

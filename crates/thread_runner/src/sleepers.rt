@@ -7,10 +7,10 @@ use machine_scene::set_at;
 use std::marker::Model;
 use std::sync::Condvar;
 
-/// The workers that were found to wait, and were not woken since. Only `wake_all` forgets them, and it wakes them all.
+/// The workers that were found to wait. `note` removes one that needn't wait any more, and `wake_all` wakes and removes all.
 #[derive(Drop)]
 pub struct Sleepers {
-    /// That of thread `n` is the bit `1 << n`.
+    /// The worker of thread `n` is the bit `1 << n`.
     noted: u64,
 }
 

@@ -8,7 +8,7 @@ pub struct Event {
 /// What happened to the thread.
 #[derive(Clone, Copy, PartialEq, Eq)]
 pub enum What {
-    /// It isn't ready: nothing happened.
+    /// The choice was idle: nothing happened.
     Idle,
     /// A row without a result was done.
     Done,
@@ -22,7 +22,7 @@ pub enum What {
     Throws(i32),
     /// It enters an advance routine or a barrier's action.
     Enters,
-    /// Throwing, it left a call, a routine or an action.
+    /// It is throwing, and left a call, a routine or an action.
     Unwinds,
     /// A handler caught this exception.
     Catches(i32),
@@ -36,7 +36,7 @@ pub enum What {
 #[derive(Clone, Copy, PartialEq, Eq)]
 pub enum Mark {
     Nothing,
-    /// The phase of this root phaser ended, or its tree was terminated; the view after it.
+    /// The phase of this root phaser ended, or its tree was terminated. `view` is what `getPhase` returns after it.
     Phase { root: u8, view: i32 },
     /// This barrier was tripped.
     Tripped(u8),

@@ -10,7 +10,7 @@ pub enum Entry {
     Call(u16),
     /// A handler of exceptions. The number is its first row.
     Handler(u16),
-    /// The routine of a phaser's `onAdvance`. The number is its root phaser.
+    /// The routine of a root phaser's `onAdvance`. The number is the root phaser's.
     Advance(u8),
     /// The action of a barrier. The number is the barrier.
     Action(u8),
@@ -23,9 +23,9 @@ pub enum Frame {
     Call(u16),
     /// A handler of exceptions. The number is its first row.
     Handler(u16),
-    /// The advance routine of a root phaser; what the registers held at the arrival, and its row.
+    /// The `onAdvance` routine of a root phaser. The registers and the row are those of the arrival that began it.
     Advance(u8, Regs, u16),
-    /// The action of a barrier; what the registers held at the arrival, and its row.
+    /// The action of a barrier. The registers and the row are those of the arrival that began it.
     Action(u8, Regs, u16),
 }
 

@@ -53,7 +53,7 @@ impl Model for Thread {
 }
 
 impl Thread {
-    /// Makes a thread at its first row. Its stack has all the capacity that it will ever need.
+    /// Makes a thread at its first row. Its stack gets room for all 64 entries at once, so that no later push needs memory.
     pub fn new(alloc: Global, first: u16) -> Result<Thread, AllocError>
         ensures { IfOk result (λ thread. thread ≡ new_thread first) }
     {
@@ -67,7 +67,7 @@ impl Thread {
         })
     }
 
-    /// Returns a copy of the thread, with the same capacity.
+    /// Returns a copy of the thread. Its stack has room for all 64 entries, too.
     pub fn copy(&self, alloc: Global) -> Result<Thread, AllocError>
         ensures { IfOk result (λ copy. copy ≡ self.now) }
     {
@@ -104,7 +104,7 @@ impl Thread {
         self.registers.get(reg)
     }
 
-    /// Returns the interrupted status, as `Thread.isInterrupted`.
+    /// Returns the interrupted status, as `Thread.isInterrupted` does.
     pub fn interrupted(&self) -> bool
         ensures { result ≡ self.now.interrupted }
     {
@@ -225,7 +225,8 @@ impl Thread {
         self.stack.iter().any(|frame| frame.is_routine())
     }
 
-    /// Plays a row that uses only the thread's registers and its next row, such as `add` or `jmp`. Returns its result, if any.
+    /// Plays a row that uses only the thread's registers and its next row, such as `add` or `jmp`. Returns `Value` with the
+    /// row's result, or `Done` if the row has none.
     #[inline(always)]
     pub fn local_row(&mut self, row: Row) -> What
         requires row { IsTrue (is_local_row row) }
@@ -238,7 +239,8 @@ impl Thread {
         }
     }
 
-    /// Plays `out`: appends a register's number to the output, or throws 8 if that is full. Without memory, nothing changes.
+    /// Plays `out`: appends a register's number to the output, or throws 8 if the output is full. `Err`: memory ran out, and
+    /// nothing has changed.
     pub fn out(&mut self, from: Reg) -> Result<What, AllocError>
         requires { self.old.pc < 65535 }
         ensures ok { IfOk result (λ what.
@@ -290,7 +292,7 @@ impl Thread {
         What::Done
     }
 
-    /// Plays `endtry`: pops the handler on top of the stack. It throws 7 if another entry is on top, or none.
+    /// Plays `endtry`: pops the handler on top of the stack. It throws 7 if another entry is on top, or the stack is empty.
     pub fn end_try(&mut self) -> What
         requires { self.old.pc < 65535 }
         ensures { record { thread = self.new; what = result }
@@ -305,7 +307,7 @@ impl Thread {
         }
     }
 
-    /// Plays `ret` after a call: pops the call's entry, which the caller has read (`let _`), and goes to its row.
+    /// Plays `ret` after a call: pops the call's entry (`let _`), and goes to `row`, which the caller has read from this entry.
     pub fn return_to(&mut self, row: u16) -> What
         ensures { record { thread = self.new; what = result } ≡ turn_of_return row self.old }
     {
@@ -314,8 +316,8 @@ impl Thread {
         What::Done
     }
 
-    /// Enters a root's routine at the row `first`. The registers and the row of the arrival are put on the stack before R0
-    /// gets the phase that ends, and R1 the registered parties.
+    /// Enters a root's routine at the row `first`. The stack entry saves the registers and the row of the arrival. After that,
+    /// R0 gets the phase that ends, and R1 gets the number of registered parties.
     pub fn enter_advance(&mut self, root: u8, phase: i32, parties: u16, first: u16) -> What
         requires { is_full self.old ≡ false }
         ensures { record { thread = self.new; what = result }
@@ -328,7 +330,7 @@ impl Thread {
         What::Enters
     }
 
-    /// Enters a barrier's action at the row `first`. The registers and the row of the arrival are put on the stack.
+    /// Enters a barrier's action at the row `first`. The stack entry saves the registers and the row of the arrival.
     pub fn enter_action(&mut self, barrier: u8, first: u16) -> What
         requires { is_full self.old ≡ false }
         ensures { record { thread = self.new; what = result } ≡ turn_of_action barrier first self.old }
@@ -338,8 +340,8 @@ impl Thread {
         What::Enters
     }
 
-    /// Pops the routine or action on top of the stack (`let _`). The thread is at its arrival's `row` again, with these
-    /// registers.
+    /// Pops the entry of a routine or an action, which the caller has read (`let _`). The thread gets back the `row` and the
+    /// `registers` of its arrival, which this entry saved.
     pub fn leave_routine(&mut self, registers: &Regs, row: u16)
         ensures { self.new ≡ left_routine registers.now row self.old }
     {
@@ -368,8 +370,8 @@ impl Thread {
         self.answer(into, status)
     }
 
-    /// Pops one entry while exception `code` looks for its handler. A handler catches it, and R7 gets it. A routine or an
-    /// action ends, and the registers are those of the arrival again. With an empty stack the thread dies.
+    /// Pops one entry while exception `code` looks for its handler. A handler catches it, and R7 gets `code`. After a routine
+    /// or an action, the registers and the row are those of its arrival again. If the stack is empty, the thread dies.
     pub fn pop(&mut self, code: i32) -> What
         ensures { record { thread = self.new; what = result } ≡ turn_of_pop code self.old }
     {

@@ -30,8 +30,8 @@ struct Ascent {
     levels: usize,
 }
 
-/// Returns the result of an arrival at phaser `i`, without those above. `top` is its root's word. If its own word is of an
-/// earlier phase, their upper halves differ.
+/// Returns the result of an arrival at phaser `i` alone, without its parents. `top` is its root's word. The upper halves of
+/// `top` and of the phaser's own word differ if the own word is of an earlier phase.
 #[inline(always)]
 fn arrival_at(nodes: &[Node], i: usize, top: Word, leave: bool) -> packed_phaser::Arrived
     requires stored { IsStored nodes.now }
@@ -50,8 +50,9 @@ fn arrival_at(nodes: &[Node], i: usize, top: Word, leave: bool) -> packed_phaser
 }
 
 /// Computes an arrival's new words, from the line's first phaser up to one at which others are still to arrive, and writes them
-/// into `words` only. A child whose parties have all arrived arrives above, or leaves there if it has no party left. Returns
-/// how many words there are. If a phaser has no party left that could arrive, the arrival is refused, with none.
+/// into `words` only. A child whose parties have all arrived arrives at its parent. If it has no party left, it leaves its
+/// parent. Returns how many words there are. If a phaser has no party left that could arrive, the arrival is refused, with
+/// none.
 #[inline(always)]
 fn look(nodes: &[Node], line: &[u8], top: Word, leave: bool, words: &mut [Word]) -> Ascent
     requires stored { IsStored nodes.now }
@@ -88,7 +89,7 @@ fn look(nodes: &[Node], line: &[u8], top: Word, leave: bool, words: &mut [Word])
                         levels: k + 1,
                     };
                 }
-                // Whoever stays leaves no phaser without parties.
+                // A child leaves its parent only if the child's last party leaves.
                 leaves = leaves && word.parties() == 0;
                 words[k] = if leaves { word.vacate() } else { word };
             }
@@ -153,7 +154,7 @@ fn ascend<const LEAVE: bool>(nodes: &mut [Node], i: usize) -> Arrived
     }
 }
 
-/// Plays `arrive` if phasers above may change. It is apart: so an arrival that ends at its phaser needs no buffer.
+/// Plays `arrive` if parents change, too. It is a function of its own, so that other arrivals need no buffer for words.
 #[inline(always)]
 fn arrive_above(nodes: &mut [Node], i: usize, leave: bool) -> Arrived
     requires stored { IsStored nodes.old }

@@ -112,9 +112,10 @@ impl Forest {
         climb::arrive(self.nodes.as_mut_slice(), id.0 as usize, leave)
     }
 
-    /// Ends the phase of a root at which all have arrived, after `onAdvance` has returned `ends`. If no arrival in the tree was
-    /// one too many (stray), everybody who registered directly with a phaser of it has arrived (`safe`). Fewer than 2147483647
-    /// phases of the tree may have ended before, as a limit of steps ensures: so no word is ever 2147483648 phases behind.
+    /// Ends the phase of a root at which all have arrived. `ends` is what `onAdvance` returned: whether the tree terminates. If
+    /// no arrival in the tree was one too many (stray), everybody who registered directly with one of its phasers has arrived
+    /// (`safe`). Fewer than 2147483647 phases of the tree may have ended before, as a limit of steps ensures: so no word is
+    /// ever 2147483648 phases behind.
     pub fn finish_turn(&mut self, root: PhaserId, ends: bool)
         requires there { root.0 < length self.old }
         requires root { root_at (phasers_of self.old) root.0 ≡ root.0 }
@@ -176,9 +177,9 @@ impl Forest {
 
 /// Laws: what is true of every forest. Each only reads a field, which brings the invariant of `Forest` into its proof.
 impl Forest {
-    /// A law: a forest has at most 64 phasers, and that the line of each phaser leads up to a root. The word of a phaser
-    /// may have an older phase than the root. It is older by at most as many phases as have ended in this tree. No phaser is
-    /// terminated before its root. The lemmas of other crates require these facts. The read of a field is there for the proof.
+    /// A law: a forest has at most 64 phasers, and the line of each phaser leads up to a root. The word of a phaser may have an
+    /// older phase than the root. It is older by at most as many phases as have ended in this tree. No phaser is terminated
+    /// before its root. The lemmas of other crates require these facts. The read of a field is there for the proof.
     pub fn is_forest(&self)
         ensures { IsStored self.now }
     {

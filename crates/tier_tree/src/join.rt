@@ -1,4 +1,4 @@
-//! How parties register with a phaser. If it was empty, it registers one party with its parent, and so on up.
+//! How parties register with a phaser. A phaser that was empty registers one party with its parent, and so on up.
 ghost use Rattle.std.specs.Prelude.{◌≡◌, ◌+◌, ◌<◌, [], ◌∷◌, length, All, nat_lt};
 ghost use Rattle.std.specs.List.{list_any};
 ghost use Rattle.packed_phaser.specs.{Flat.register, Word.record_of};
@@ -41,8 +41,8 @@ pub fn is_overfull_along(nodes: &[Node], line: &[u8], count: u32) -> bool
     }
 }
 
-/// Returns whether a registration with the first phaser of `line`, as above, would change one that is turned: all its parties
-/// have arrived, and its phase hasn't ended yet.
+/// Returns whether a registration, as in `is_overfull_along`, would change a phaser that is turned: all its parties have
+/// arrived, and its phase hasn't ended yet.
 pub fn is_turned_along(nodes: &[Node], line: &[u8], count: u32) -> bool
     requires stored { IsStored nodes.now }
     requires there { All (λ id. id < length nodes.now) line.now }
@@ -78,7 +78,7 @@ fn join_at(nodes: &mut [Node], i: usize, count: u32)
     }
 }
 
-/// Registers `count` parties with the line's first phaser. If that is empty, it first registers one with the next, and so on.
+/// Registers `count` parties with the line's first phaser. If it is empty, one is first registered with its parent, and so on.
 pub fn join_along(nodes: &mut [Node], line: &[u8], count: u32)
     requires stored { IsStored nodes.old }
     requires there { All (λ id. id < length nodes.old) line.now }

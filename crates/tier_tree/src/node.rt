@@ -53,7 +53,7 @@ impl Node {
         }
     }
 
-    /// Returns the way from the phaser up to its root.
+    /// Returns the line: the phaser, its parent, and so on up to the root.
     pub fn line(&self) -> Line
         ensures { result ≡ self.now.line }
     {

@@ -6,7 +6,8 @@ ghost use Rattle.tier_tree.specs.Stored.{IsStored, ChangedOnly, ChangedAt, phase
 use crate::node::Node;
 use crate::present::{root_of, root_word_at};
 
-/// Ends the phase of a turned root, and terminates the tree if `ends`. Only its word changes: the others are of a past phase.
+/// Ends the phase of a turned root, and terminates the tree if `ends`. Only the root's word changes: others are of a past
+/// phase.
 pub fn end_phase(nodes: &mut [Node], root: usize, ends: bool)
     requires stored { IsStored nodes.old }
     requires there { root < length nodes.old }

@@ -1,4 +1,4 @@
-//! What the stored words say at present. A child's word lags after the phase has ended, or its root was terminated.
+//! What the stored words mean at present. After the end of a phase or a termination, only the root's word is up to date.
 ghost use Rattle.std.specs.Prelude.{◌≡◌, ◌<◌, [], ◌∷◌, length, false, All, slice_index_or};
 ghost use Rattle.packed_phaser.specs.{Flat.view_of, Word.record_of};
 ghost use Rattle.tier_tree.specs.Forest.{phaser_at, flat_at, root_at, with_flat};
@@ -17,8 +17,8 @@ pub fn phase_of(word: Word) -> Phase
     Phase::prevailing(word.phase_view())
 }
 
-/// Returns what the word `own` says at present, given that of its `root`. If it is of an earlier phase, all its parties are to
-/// arrive in the root's phase. If the root is terminated, so is the result.
+/// Returns what the word `own` means at present. `root` is its root's word. If `own` is of an earlier phase, all its parties
+/// have yet to arrive in the root's phase. If the root is terminated, so is the result.
 #[inline(never)]
 fn renewed(root: Word, own: Word) -> Word
     ensures { record_of result ≡ present (record_of root) (record_of own) }
@@ -33,7 +33,7 @@ fn renewed(root: Word, own: Word) -> Word
     }
 }
 
-/// Returns what a word says at present, given that of its root. Most are of the root's phase: the upper halves are equal.
+/// Returns what the word `own` means at present. Mostly it is of the phase of its root's word: the upper halves are equal.
 #[inline(always)]
 #[tactic(auto, using(crate::proofs::View::stands_as_it_is))]
 fn brought_up(root: Word, own: Word) -> Word

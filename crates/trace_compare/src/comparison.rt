@@ -52,15 +52,15 @@ pub(crate) struct Comparison {
     machine: Machine,
     /// The run's line of the last choice that was played, without its number if the trace had the same line.
     expected: LineEnd,
-    /// The number of the next choice, as of the last line that was looked at in its block.
+    /// The number of the next choice, as `take_own_line` last set it.
     next: Digits,
     /// Whether all choices so far were accepted.
     accepted: bool,
-    /// Whether the trace has another line where the last choice's line should be: then no choice counts as accepted any more.
+    /// Whether `meet` found another line where the last choice's line should be. Then `accepted` is false.
     missed: bool,
-    /// Whether the line of the state was read.
+    /// Whether the first line of the state was read.
     is_state: bool,
-    /// The text of the state, once its line was read, and how much of it was read.
+    /// The text of the state, once its first line was read. `at` is how much of it was compared.
     text: Vec<u8>,
     at: usize,
     /// The next line's number.
@@ -96,8 +96,8 @@ impl Comparison {
         }
     }
 
-    /// Plays the choice that a line names. Returns `None` if the run has the same line: then the rest decides about the trace.
-    /// Otherwise returns the verdict. After a refused choice any other line of a choice differs.
+    /// Plays the choice that a line names. Returns `None` if the run has the same line: then the rest of the trace decides.
+    /// Otherwise returns the verdict. After a refused choice the run's next line is the state's, so a further choice differs.
     fn take_choice(&mut self, line: &[u8]) -> Result<Option<Verdict>, AllocError>
         requires number { self.old.number < 9223372036854775807 }
         requires few { length line.now ≤ 65536 }
@@ -130,8 +130,8 @@ impl Comparison {
         Ok(None)
     }
 
-    /// Compares a line with the next one of the state's text. Returns `None` if they are equal: then the rest decides about the
-    /// trace. Otherwise, or if no line of the text is left, returns the verdict.
+    /// Compares a line with the next one of the state's text. Returns `None` if they are equal: then the rest of the trace
+    /// decides. Otherwise, or if no line of the text is left, returns the verdict.
     fn take_state_line(&mut self, line: &[u8]) -> Option<Verdict>
         requires number { self.old.number < 9223372036854775807 }
         requires few { length line.now ≤ 65536 }
@@ -159,8 +159,8 @@ impl Comparison {
         None
     }
 
-    /// Compares a line, without its LF, with the run's: of a choice or of the state. Returns `None` if they are equal: then the
-    /// rest decides about the trace. Otherwise returns the verdict.
+    /// Compares a line, without its LF, with the run's next line, which is a choice's or one of the state's. Returns `None` if
+    /// they are equal: then the rest of the trace decides. Otherwise returns the verdict.
     fn take_line(&mut self, alloc: Global, line: &[u8]) -> Result<Option<Verdict>, AllocError>
         requires number { self.old.number < 9223372036854775807 }
         requires few { length line.now ≤ 65536 }
@@ -191,7 +191,7 @@ impl Comparison {
     }
 
     /// Compares bytes, which begin with the choice's number, with the line of the choice just played. Returns the line's
-    /// length, or 0 if they differ. Then the trace differs here, and no choice counts as accepted any more.
+    /// length, or 0 if they differ. Then it clears `accepted`: no further choice is played, and `take_ended` reports this line.
     #[inline(always)]
     fn meet(&mut self, bytes: &[u8]) -> usize
         requires room { 120 ≤ length bytes.now }
@@ -206,6 +206,7 @@ impl Comparison {
         let digits = self.next.count();
         let behind = self.expected.as_slice();
         let count = digits + behind.len();
+        // The 8 is only for speed: a text of 8 to 16 bytes is compared fastest.
         if begins_with::<8>(rest_of(bytes, digits), behind) {
             self.number += 1;
             return count;
@@ -216,8 +217,8 @@ impl Comparison {
         0
     }
 
-    /// Plays the choice that the bytes name, and compares its line with them. Returns the length of the line, or 0 if
-    /// `take_ended` has to compare it. If they differ, no choice counts as accepted any more.
+    /// Plays the choice that the bytes name, and compares the choice's line with the bytes. Returns the line's length. 0:
+    /// `take_ended` has to judge the line, since it isn't the next choice's, its choice is refused, or it differs (`meet`).
     #[inline(always)]
     fn take_own_line(&mut self, bytes: &[u8]) -> Result<usize, AllocError>
         requires room { 120 ≤ length bytes.now }
@@ -240,7 +241,8 @@ impl Comparison {
         }
     }
 
-    /// Passes over lines that are the run's, while 120 bytes are left: no choice's line is longer. Returns how many bytes.
+    /// Passes over lines that equal the run's, without a copy, while 120 bytes are left: no choice's line is longer. Returns
+    /// how many bytes it has passed.
     fn take_own_lines(&mut self, bytes: &[u8]) -> Result<usize, AllocError>
         requires number { self.old.number + length bytes.now < 9223372036854775807 }
         ensures { IfOk result (λ count. GoesOver self.old self.new bytes.now count) }
@@ -259,8 +261,8 @@ impl Comparison {
         Ok(done)
     }
 
-    /// Returns the verdict of a trace that ends with this line of the run, but without an LF: lines or this LF are missing. If
-    /// only the LF is missing, `at` goes back, so that `run_line` returns this line.
+    /// Returns the verdict of a trace that ends with `line`, which is equal to the run's line but has no LF. If only this LF is
+    /// missing, `at` goes back, so that `run_line` returns this line. Otherwise the verdict names the next, missing line.
     fn end_verdict(&mut self, line: &[u8]) -> Verdict
         requires at { self.old.at ≤ length self.old.text.items }
         requires behind { self.old.is_state ≡ true → StandsBehind self.old line.now }
@@ -282,7 +284,7 @@ impl Comparison {
         }
     }
 
-    /// Returns whether the trace has had the whole text of the state, and nothing (`line`) follows the last LF.
+    /// Returns whether the trace has had the whole text of the state, and `line`, which follows its last LF, is empty.
     fn is_whole(&self, line: &[u8]) -> bool
         requires { self.now.at ≤ length self.now.text.items }
         ensures { result ≡ (self.now.is_state
@@ -315,7 +317,7 @@ impl Comparison {
         }
     }
 
-    /// Compares a line, ended by an LF, by the trace's end or by its length, with the run's. Returns `None` to go on.
+    /// Compares a line with the run's. `ended`: it ends with an LF or with the trace, or is too long. Returns `None` to go on.
     fn take_ended(
         &mut self,
         alloc: Global,
@@ -342,7 +344,7 @@ impl Comparison {
     }
 }
 
-/// Returns the line that the bytes begin with, without its LF, or nothing if there are no bytes.
+/// Returns the line that the bytes begin with, without its LF, or `None` if there are no bytes.
 fn first_line(alloc: Global, bytes: &[u8]) -> Result<Option<Vec<u8>>, AllocError>
     ensures { IfOk result (λ line. option_map (λ l. l.items) line ≡ line_at 0 bytes.now) }
 {
@@ -354,7 +356,8 @@ fn first_line(alloc: Global, bytes: &[u8]) -> Result<Option<Vec<u8>>, AllocError
 }
 
 impl Comparison {
-    /// Returns the run's line at the place where the trace differs, or `None` if it has none there. It plays no choice.
+    /// Returns the run's line where the trace differs, or `None` if the run has no line there. It plays no choice: after a
+    /// refused choice the run's next line is the first line of the state.
     pub(crate) fn run_line(&self, alloc: Global) -> Result<Option<Vec<u8>>, AllocError>
         requires { self.now.at ≤ length self.now.text.items }
         ensures { IfOk result (λ line. option_map (λ l. l.items) line ≡ line_kept self.now) }
@@ -389,15 +392,16 @@ fn names_line(verdict: Verdict, number: u64) -> bool
     }
 }
 
-/// Returns whether the line that was read last, which has this number, is there at all and is the one that a verdict names.
+/// Returns whether a verdict names the line that was read last, which has this number, and it is a line at all (`is_one`).
 fn is_read(verdict: Verdict, number: u64, ended: LineEnded, line: &[u8]) -> bool
     ensures { result ≡ (names_line verdict number && is_one ended line.now) }
 {
     names_line(verdict, number) && is_one(ended, line)
 }
 
-/// Compares a trace with the run that begins at the machine of `now`. Returns the verdict, and whether the trace's line that it
-/// names is the one that was read last. Lines equal to the run's are compared where they are, and any other line is copied.
+/// Compares a trace with the run that begins at the machine of `now`. Returns the verdict, and whether `lines` holds the
+/// trace's line that the verdict names: not if it is missing. Lines equal to the run's are compared where they are, and any
+/// other line is copied.
 pub(crate) fn compare_lines<S: Source>(
     alloc: Global,
     now: &mut Comparison,

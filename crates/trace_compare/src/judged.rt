@@ -16,7 +16,7 @@ pub struct Judged {
     verdict: Verdict,
     run: Comparison,
     lines: SourceLines,
-    /// Whether the trace's line is the one that was read last.
+    /// Whether `lines` holds the trace's line that the verdict names.
     is_read: bool,
 }
 
@@ -42,7 +42,8 @@ impl Judged {
         self.verdict
     }
 
-    /// Returns the run's line, without its LF, if the verdict is `Differs` and it has one there.
+    /// Returns the run's line, without its LF, at the number that the verdict `Differs` names. `None`: the run has no such
+    /// line, or the verdict is another.
     pub fn run_line(&self, alloc: Global) -> Result<Option<Vec<u8>>, AllocError>
         ensures { IfOk result (λ line. option_map (λ l. l.items) line ≡ self.now.told.line) }
     {
@@ -52,7 +53,8 @@ impl Judged {
         }
     }
 
-    /// Returns the trace's line that the verdict names, or its first 65,537 bytes, if there is one.
+    /// Returns the trace's line that the verdict names, or its first 65,537 bytes. `None`: the trace has no such line, or the
+    /// verdict names none.
     pub fn trace_line(&self) -> Option<&[u8]>
         ensures { option_map (λ (line : Bor (List ℕ)). line.now) result ≡ self.now.trace }
     {
@@ -65,7 +67,7 @@ impl Judged {
 }
 
 /// Compares a trace, byte for byte, with the run of the image's program that its lines name. The verdict names the first line
-/// that isn't a line of a trace, or isn't the run's. It reads no further than the piece that has this line.
+/// that isn't a line of a trace, or isn't the run's. `judge` reads no further than the piece of input that has this line.
 pub fn judge<S: Source>(alloc: Global, image: Image, trace: &mut S) -> Result<Judged, CompareFault>
     ensures outcome { Judges image result (S.left trace.old) (S.left trace.new) (S.has_failed trace.new) }
     ensures reads { S.reads trace.new ≤ S.reads trace.old + 1000000000 }
@@ -91,7 +93,7 @@ pub fn judge<S: Source>(alloc: Global, image: Image, trace: &mut S) -> Result<Ju
     }
 }
 
-/// Returns the verdict of `judge`, for callers that need no line. It takes no more memory, and fails if `judge` does.
+/// Returns the verdict of `judge` alone, for callers that need no line.
 pub fn compare<S: Source>(
     alloc: Global,
     image: Image,

@@ -20,7 +20,7 @@ pub enum LineNames {
     Nothing,
 }
 
-/// Returns what a line without its LF names: nothing if it has more than 65,536 bytes.
+/// Returns what a line without its LF names: `Nothing` if the line has more than 65,536 bytes.
 pub(crate) fn line_names(line: &[u8]) -> LineNames
     ensures names { result ≡ line_names line.now }
     ensures thread { (choice : Choice) → result ≡ Made choice → choice.thread ≤ 63 }

@@ -12,7 +12,7 @@ use schedule_reader::{Run, push_joined};
 use std::alloc::Global;
 use thread_machine::Choice;
 
-/// The most lines that are read: a trace has at most 1,000,000,000,000 choices.
+/// The most lines that are read: a trace has at most 1,000,000,000,000 choices. A longer one counts as one that can't be read.
 pub const MOST_LINES: u64 = 1_000_000_000_001;
 
 /// What the next line of a trace names.
@@ -24,7 +24,7 @@ pub enum NextName {
     State,
     /// Nothing: it is no line of a trace.
     NotATrace,
-    /// A choice, but the trace ends with this line: no state follows.
+    /// A choice, but the trace ends with this line, without a state. So the next, missing line is the first wrong one.
     CutOff(Choice),
 }
 
@@ -33,7 +33,7 @@ pub enum NextName {
 pub enum Named {
     /// These choices, as runs that are joined if they can be.
     Choices(Vec<Run>),
-    /// None: this line, counted from 1, is the first that is no line of a trace.
+    /// It is no trace: this line, counted from 1, is the first that is no line of a trace.
     NotATrace { line: u64 },
 }
 
@@ -46,7 +46,7 @@ pub enum NamingFault {
     Read,
 }
 
-/// Returns what a line names that ended like this. A choice in the last line is cut off, since no state follows.
+/// Returns what a line names, by how the line ended. A choice in the last line is cut off, since no state follows.
 fn next_by(named: LineNames, ended: LineEnded) -> NextName
     ensures { result ≡ next_by named ended }
 {
@@ -79,7 +79,7 @@ pub fn next_name<S: Source>(lines: &mut SourceLines, trace: &mut S) -> Result<Ne
 }
 
 /// Returns the choices that a trace's lines name, up to the line of its state, or the number of the first line that isn't a
-/// line of a trace. It doesn't look at what follows that line.
+/// line of a trace. It doesn't look at what follows the state's first line or the wrong line.
 pub fn choices_in<S: Source>(alloc: Global, trace: &mut S) -> Result<Named, NamingFault>
     ensures named { IfOk result (λ named. HasNamed (S.left trace.old) (S.left trace.new) (named_by named)) }
     ensures runs { IfOk result (λ named. AreRuns named) }

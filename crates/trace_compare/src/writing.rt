@@ -50,7 +50,7 @@ fn put_letter(line: &mut LineEnd, expiry: bool)
     }
 }
 
-/// Writes a run's token, as `t2*3`, and after it the byte `behind`. `line` is room for them, whose content doesn't matter.
+/// Writes a run's token, as `t2*3`, and after it the byte `behind`. `line` is only the buffer: its old content doesn't matter.
 pub fn push_token<K: Sink>(
     output: &mut K,
     line: &mut LineEnd,
@@ -69,7 +69,7 @@ pub fn push_token<K: Sink>(
     output.push(line.as_slice())
 }
 
-/// Returns the run `last` with one more `choice`. If it has another choice or is full, writes it and returns a new run.
+/// Returns the run `last` with `choice` added. If `last` has another choice or is full, writes `last` and returns a new run.
 fn take<K: Sink>(
     last: Option<Run>,
     choice: Choice,
@@ -93,7 +93,7 @@ fn take<K: Sink>(
     Ok(Run::once(choice))
 }
 
-/// Writes the last run and an LF. Without a run it writes only the LF, or nothing if a line was no line of a trace.
+/// Writes the last run and an LF. Without a run it writes only the LF, or nothing if the input is no trace.
 fn end<K: Sink>(
     last: Option<Run>,
     is_trace: bool,
@@ -112,7 +112,7 @@ fn end<K: Sink>(
 }
 
 /// Writes the schedule of a trace as one line: the choices that its lines name, up to the line of its state, with repeated
-/// choices joined. If a line isn't a line of a trace, it writes the choices before it, and returns that line's number, from 1.
+/// choices joined. If a line isn't a line of a trace, it writes the choices before that line, and returns its number, from 1.
 pub fn write_choices<S: Source, K: Sink>(
     alloc: Global,
     trace: &mut S,

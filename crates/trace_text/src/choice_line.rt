@@ -7,7 +7,7 @@ use crate::line_end::LineEnd;
 use std::marker::Model;
 use thread_machine::{Choice, Event};
 
-/// The line of a choice. It keeps its buffer and its number's digits, which mostly differ only in the last from the next one's.
+/// The line of a choice. It keeps its buffer and its number's digits for the next choice: mostly only the last digit changes.
 #[derive(Drop)]
 pub struct ChoiceLine {
     text: LineEnd,

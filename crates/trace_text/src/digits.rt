@@ -56,7 +56,8 @@ impl Digits {
         self.move_far(number);
     }
 
-    /// Makes these the digits of `number`, if more than the last digit changes. From 19 to 20 it writes two digits, else all.
+    /// Makes these the digits of `number`, if more than the last digit changes. A step such as 19 to 20 writes two digits. Any
+    /// other writes all, for example 9 to 10, which adds a digit.
     #[inline(never)]
     fn move_far(&mut self, number: u64)
         requires { number + 1 < 2 ^ 64 }

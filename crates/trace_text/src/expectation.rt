@@ -7,7 +7,7 @@ use crate::run_end::RunEnd;
 use crate::state_line::{has_died, has_whole, line_of};
 use thread_machine::Standing;
 
-/// Returns whether a line of the state begins with `subject` and has `words` in a row. In a list, these have to reach its end.
+/// Returns whether a line of the state begins with `subject` and has `words` in a row. In a list, `words` reach its end.
 fn says(state: &[u8], subject: &[u8], words: &[u8]) -> bool
     ensures { result ≡ says state.now subject.now words.now }
 {
@@ -29,7 +29,7 @@ fn is_cell(word: &[u8]) -> bool
     }
 }
 
-/// Returns whether ` 0` is expected of a cell, as `c3`, that has no line in the state: a cell that is 0 has none.
+/// Returns whether ` 0` is expected of a cell, for example `c3`, that has no line in the state. A cell that is 0 has no line.
 fn is_zero_cell(state: &[u8], subject: &[u8], words: &[u8]) -> bool
     ensures { result ≡ is_zero_cell state.now subject.now words.now }
 {
@@ -43,8 +43,8 @@ fn have_ended(state: &[u8]) -> bool
     says(state, b"state", b" all") && !has_died(state)
 }
 
-/// Returns whether `state`, the text of a state, meets the expectation `text`. That is a word for how a run ends, for example
-/// `ended`, or the name of a line and words of it, for example `t0 ended` or `c3 0`.
+/// Returns whether `state`, the text of a state, meets the expectation `text`. An expectation is a word for how a run ends, for
+/// example `ended`, or a line's name and words, for example `t0 ended` or `c3 0`.
 pub fn is_met(state: &[u8], text: &[u8]) -> bool
     ensures { result ≡ is_met state.now text.now }
 {
@@ -61,7 +61,7 @@ pub fn is_met(state: &[u8], text: &[u8]) -> bool
     }
 }
 
-/// Returns whether a state is as all of these texts expect.
+/// Returns whether a state meets all of these expectations.
 pub fn are_met(state: &[u8], texts: &[Vec<u8>]) -> bool
     ensures { result ≡ are_met state.now texts.now }
 {
@@ -82,7 +82,7 @@ fn allows(text: &[u8], standing: Standing) -> bool
     }
 }
 
-/// Returns whether a run ended as the expectation `text` says: no choice was refused, and its end and its state are so.
+/// Returns whether a run ended as the expectation `text` says: no choice was refused, and its end and its state meet `text`.
 pub fn is_end_expected(end: &RunEnd, text: &[u8]) -> bool
     ensures { result ≡ is_end_expected end.now text.now }
 {

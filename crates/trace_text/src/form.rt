@@ -5,8 +5,8 @@ ghost use Rattle.trace_text.specs.Expectation.{end_words, is_expectation, subjec
 
 use line_reader::words::length_before;
 
-/// Returns what the line `state` has to contain if an expectation is this word for a run's end. `None`: it is no such word.
-/// `ended` is read as `all`: that no thread has died is checked elsewhere.
+/// Returns what the line `state` has to contain if `text` is a word for how a run ends. `None`: `text` is no such word. `ended`
+/// is read as `all`: `is_met` checks that no thread has died.
 pub fn end_words(text: &[u8]) -> Option<&'static [u8]>
     ensures { option_map (λ (words : Bor (List ℕ)). words.now) result ≡ end_words text.now }
 {
@@ -37,7 +37,7 @@ pub fn words_of(text: &[u8]) -> &[u8]
     &text[length_before(b' ', text)..]
 }
 
-/// Returns whether a text is an expectation: a word for how a run ends, as `all`, or a line's name and words, as `t0 ended`.
+/// Returns whether a text is an expectation: a word for how a run ends (`all`), or a line's name and words (`t0 ended`).
 pub fn is_expectation(text: &[u8]) -> bool
     ensures { result ≡ is_expectation text.now }
 {

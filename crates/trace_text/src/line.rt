@@ -30,7 +30,7 @@ fn put_with_count<const N: usize>(line: &mut LineEnd, word: &[u8; N], count: u64
     line.put_word(word);
 }
 
-/// Puts what a choice did before the line, as `wait` or `= 1`.
+/// Puts before the line what a choice did, for example `wait` or `= 1`.
 #[inline(always)]
 fn put_what(line: &mut LineEnd, what: What)
     requires { length line.old + 17 ≤ 192 }
@@ -52,7 +52,8 @@ fn put_what(line: &mut LineEnd, what: What)
     }
 }
 
-/// Puts ` +p`, a root's number, a space and its `getPhase` before the line: the root's phase has ended, or it is terminated.
+/// Puts before the line ` +p`, a root's number, a space and `view`, what its `getPhase` returns. The root's phase has ended, or
+/// the root is terminated.
 #[inline(always)]
 fn put_phase(line: &mut LineEnd, root: u8, view: i32)
     requires { length line.old + 35 ≤ 192 }
@@ -63,7 +64,7 @@ fn put_phase(line: &mut LineEnd, root: u8, view: i32)
     put_with_count(line, b" +p", u64::from(root));
 }
 
-/// Puts ` +p0 1`, ` +b0` or ` -b0` before the line if a phase ended, a barrier tripped or broke, and otherwise nothing.
+/// Puts before the line ` +p0 1` if a phase ended, ` +b0` if a barrier tripped, ` -b0` if it broke, and otherwise nothing.
 #[inline(always)]
 fn put_mark(line: &mut LineEnd, mark: Mark)
     requires { length line.old + 35 ≤ 192 }

@@ -4,7 +4,7 @@ ghost use Rattle.trace_text.specs.Reading.{BeginsWithName, NamesBehind};
 
 use thread_machine::Choice;
 
-/// Returns the bytes from a place on.
+/// Returns the bytes of a text from index `at` on.
 pub fn rest_of(text: &[u8], at: usize) -> &[u8]
     requires { at ≤ length text.now }
     ensures rest { result.now ≡ drop at text.now }
@@ -69,7 +69,7 @@ pub fn begins_with<const N: usize>(bytes: &[u8], text: &[u8]) -> bool
     first == text
 }
 
-/// Returns the choice whose name, as ` t0 ` or ` x63 `, begins these bytes. `None`: they begin otherwise, or are too few.
+/// Returns the choice whose name, as ` t0 ` or ` x63 `, begins these bytes. `None`: they don't begin so, or are fewer than 5.
 #[inline(always)]
 fn choice_between_spaces(bytes: &[u8]) -> Option<Choice>
     ensures { IfSome result (λ choice. BeginsWithName bytes.now choice) }
@@ -98,12 +98,14 @@ fn choice_between_spaces(bytes: &[u8]) -> Option<Choice>
     Some(Choice { thread, expiry })
 }
 
-/// Returns the choice named after `number` at the start of a line, as t0 in `7 t0 `. `None`: the caller reads the line whole.
+/// Returns the choice named after `number` at the start of a line, as t0 in `7 t0 `. `None`: the line begins otherwise, so the
+/// caller has to read all of it.
 #[inline(always)]
 pub fn choice_behind(bytes: &[u8], number: &[u8]) -> Option<Choice>
     requires { length number.now ≤ length bytes.now }
     ensures { IfSome result (λ choice. NamesBehind bytes.now number.now choice) }
 {
+    // The 4 is only for speed: a number of 4 to 8 digits is compared fastest.
     if !begins_with::<4>(bytes, number) {
         return None;
     }

@@ -61,7 +61,7 @@ fn push_event<W: Sink>(
     push_line(line.as_slice(), output)
 }
 
-/// Writes the line of the choice that this machine refused as its next: `pc` is the thread's row, or `None` if there is none.
+/// Writes the line of the choice that this machine refused as its next: `pc` is the thread's row, or `None` for no such thread.
 fn push_refusal<W: Sink>(
     machine: &Machine,
     choice: Choice,
@@ -112,7 +112,7 @@ fn play_choice<W: Sink>(
     }
 }
 
-/// Plays one choice, and makes its line, also if it is refused. Returns whether the choice was accepted. Fails without memory.
+/// Plays one choice, and makes `line` its line, also if it is refused. Returns whether it was accepted. Fails if out of memory.
 pub fn line_of_choice(
     machine: &mut Machine,
     choice: Choice,

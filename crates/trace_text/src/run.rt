@@ -21,10 +21,10 @@ use thread_machine::Machine;
 /// How many bytes of a schedule are read at a time.
 const PIECE: usize = 4096;
 
-/// The most runs that such a piece completes: one for every three bytes, and one that began before it.
+/// The most runs that such a piece completes: one for every three bytes, and one that began before the piece.
 const MOST_RUNS: usize = 1400;
 
-/// The most times that a schedule is read.
+/// The most pieces of a schedule that are read.
 const MOST_READS: u64 = 1_000_000_000;
 
 /// Why a trace is not written, or is cut short.
@@ -54,7 +54,8 @@ impl RunFault {
     }
 }
 
-/// Returns `told`, what the reader of a schedule returned, if that is a fault, and otherwise the refused choice, or `None`.
+/// Returns the fault in `told`, which the schedule's reader returned. If there is none, returns the refused choice, or `None`
+/// if no choice was refused.
 fn read_or_refused(
     told: Result<(), ScheduleFault>,
     refused: Option<Refused>,
@@ -98,8 +99,8 @@ fn play_piece<W: Sink>(
     }
 }
 
-/// Reads a schedule to its end, even after a refused choice, to find its faults. Plays it up to that choice, and returns it, or
-/// `None` if no choice was refused.
+/// Reads a schedule to its end, even after a refused choice, to find its faults. Plays it up to that choice. Returns the
+/// refused choice, or `None` if no choice was refused. `runs` has the caller's memory for the runs of one piece.
 fn play_stream<S: Source, W: Sink>(
     machine: &mut Machine,
     schedule: &mut S,

@@ -52,7 +52,8 @@ fn add_status(text: &mut Vec<u8>, status: Status) -> Result<(), AllocError>
     }
 }
 
-/// Appends a stack entry, a blank before it: `C` or `H` and a row, `A` and the number of a root, or `X` and that of a barrier.
+/// Appends a stack entry, a blank before it: `C` (call) or `H` (handler) and a row, `A` (`onAdvance`) and a root's number, or
+/// `X` (action) and a barrier's number.
 fn add_entry(text: &mut Vec<u8>, entry: Entry) -> Result<(), AllocError>
     ensures { OnOk result (text.new.items ≡ text.old.items ++ entry_text entry) }
 {

@@ -58,7 +58,8 @@ fn begins_whole(words: &[u8], text: &[u8]) -> bool
     begins(words, text) && (!names_a_list(words) || ends_a_list(&text[words.len()..]))
 }
 
-/// Returns whether a line has `words`, which begin with a blank, somewhere in a row. Words of a list go on to a list's end.
+/// Returns whether a line has `words`, which begin with a blank, somewhere in a row. If a list is among them, they have to go
+/// on to a list's end.
 pub fn has_whole(words: &[u8], line: &[u8]) -> bool
     ensures { result ≡ has_whole words.now line.now }
 {
@@ -79,7 +80,7 @@ fn first_line(text: &[u8]) -> &[u8]
     &text[..length_before(b'\n', text)]
 }
 
-/// Returns the first line, but not the text's first one, that begins with the word `subject`, without its LF, or `None`.
+/// Returns the first line after the text's first one that begins with the word `subject`, without its LF, or `None`.
 fn later_line<'a>(subject: &[u8], text: &'a [u8]) -> Option<&'a [u8]>
     ensures { option_map (λ (line : Bor (List ℕ)). line.now) result ≡ later_line subject.now text.now }
 {

@@ -6,7 +6,7 @@ use crate::next_choice::rest_of;
 use line_reader::words::length_before;
 use thread_machine::Choice;
 
-/// Returns the choice of thread number `thread`, or `None` if it wasn't named in digits or is above 63.
+/// Returns the choice of thread number `thread`, or `None` if the thread wasn't named in digits or is above 63.
 fn choice_by(expiry: bool, are_digits: bool, thread: u16) -> Option<Choice>
     ensures { result ≡ choice_by expiry are_digits thread }
 {
@@ -39,7 +39,7 @@ fn choice_of_digits(expiry: bool, digits: &[u8]) -> Option<Choice>
     }
 }
 
-/// Returns the choice that a name as `t2` or `x2` stands for. `None`: it is no such name.
+/// Returns the choice that a name such as `t2` or `x2` stands for. `None`: it is no such name.
 fn choice_named(name: &[u8]) -> Option<Choice>
     ensures { result ≡ choice_named name.now }
 {

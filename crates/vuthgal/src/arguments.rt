@@ -76,7 +76,7 @@ fn push_word(rt: &HostRuntime, words: &mut Vec<String>, word: &str) -> Result<()
 }
 
 /// Reads the argument of this number into `room`, and returns its length. The inner error says that there is no such argument,
-/// or it is too long. The room grows only for a long argument: clearing it takes time.
+/// or that it is too long. The room grows only for a long argument: clearing it takes time.
 fn read_word(
     rt: &HostRuntime,
     number: usize,
@@ -93,7 +93,7 @@ fn read_word(
     }
 }
 
-/// Returns the arguments behind a fixed name of the program, whatever it was called by. One that isn't UTF-8 is an error.
+/// Returns the program's fixed name, whatever it was called by, and the arguments. One that isn't UTF-8 is an error.
 pub fn given(rt: &HostRuntime) -> Result<Vec<String>, NoCommand> {
     let mut words = Vec::new(rt.alloc());
     push_word(rt, &mut words, NAME)?;
@@ -152,8 +152,8 @@ fn push_without_blank_lines(rt: &HostRuntime, text: &str, is_known: bool) {
     }
 }
 
-/// Returns whether a plan or a STATE has no quotes. Then its option has two words behind it, of which the second names no
-/// program; or a word ends with a dot, but isn't behind an option.
+/// Returns whether a plan or a STATE has no quotes. Then two words follow its option, of which the second names no program; or
+/// a word ends with a dot, but doesn't follow an option.
 fn lack_quotes(words: &[String]) -> bool {
     // 1 after `--plan` or `--expect`, 2 after its first word, 3 after another option, and 0 after other words.
     let mut before = 0;
@@ -173,7 +173,7 @@ fn lack_quotes(words: &[String]) -> bool {
     false
 }
 
-/// Returns whether a word begins like an option, but with one hyphen, as `-plan`, or with a dash, as a text on paper has it.
+/// Returns whether a word begins like an option, but with one hyphen, as `-plan`, or with a longer dash (in UTF-8).
 fn have_other_dash(words: &[String]) -> bool {
     words.iter().any(|word| matches!(
         word.as_bytes(),
@@ -181,8 +181,8 @@ fn have_other_dash(words: &[String]) -> bool {
     ))
 }
 
-/// Returns a line of advice on wrong arguments, or None: a file is no command, texts with blanks are quoted, and options have
-/// names. `wrong` is the word that the error is about.
+/// Returns a line of advice on wrong arguments, for example that a file is no command. None if no advice is known. `wrong` is
+/// the word that the error is about.
 fn help_with(
     rt: &HostRuntime,
     kind: ErrorKind,

@@ -81,6 +81,7 @@ fn session_at(
     name: &str,
     trace: Stream<'_>,
 ) -> Result<Done, Reported> {
+    // 0: no lines of its file precede the trace.
     let mut trace = Watched::new(report.alloc(), ReadPort::new(trace), 0);
     let mut commands = commands(report)?;
     let mut output = WritePort::new(report.kept(report.rt.stdout()));
@@ -94,7 +95,7 @@ fn session_at(
     Ok(done)
 }
 
-/// Writes `not a trace LINE` to standard output, and shows a person that line on standard error. It is the first that no trace has
+/// Writes `not a trace LINE` to standard output, and shows a person that line on standard error: the first that no trace has
 /// there. Returns `Unlike`, which is exit status 1, or what was reported if standard output failed.
 fn end_without_trace<S>(
     report: &Report<'_>,
@@ -109,7 +110,7 @@ fn end_without_trace<S>(
     Ok(Done::Unlike)
 }
 
-/// Carries out a person's commands after the choices of a trace. They are read first, because the command `w` writes them.
+/// Carries out a person's commands after the choices of a trace, all of which are read first: the command `w` writes them.
 fn session_of_person_at(
     report: &Report<'_>,
     file: ProgramFile<'_>,
@@ -117,6 +118,7 @@ fn session_of_person_at(
     name: &str,
     trace: Stream<'_>,
 ) -> Result<Done, Reported> {
+    // 0: no lines of its file precede the trace.
     let mut trace = Watched::new(report.alloc(), ReadPort::new(trace), 0);
     match choices_in(report.alloc(), &mut trace) {
         Ok(Named::Choices(runs)) => session_of_person(report, file, program, Some(runs.as_slice())),
@@ -147,7 +149,7 @@ fn greet(report: &Report<'_>, program: &Program<'_>) -> Result<(), Reported>
     Ok(())
 }
 
-/// Carries out commands after the choices of a plan.
+/// Carries out commands after the choices of a plan. `is_guided`: they are those of a person.
 fn session_after_plan(
     report: &Report<'_>,
     file: ProgramFile<'_>,

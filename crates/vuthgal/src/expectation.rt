@@ -22,8 +22,8 @@ use trace_text::state_line::{has_died, line_of};
 use workbench::done::Done;
 use workbench::fault::Fault;
 
-/// Appends the word that begins an object's line in the state, as `t0`, for the object's name; or the name itself if nothing
-/// has it. A declared name goes before a number: `t0` is thread 0 only if nothing else has this name.
+/// Appends the word that begins an object's line in the state, for example `t0`, for the object's name; or the name itself if
+/// nothing has it. A declared name goes before a number: `t0` is thread 0 only if nothing else has this name.
 fn push_subject(text: &mut Vec<u8>, symbols: &Symbols<'_>, name: &[u8]) -> Result<(), AllocError> {
     for index in 0..symbols.len() {
         let Some(symbol) = symbols.get(index) else {
@@ -90,7 +90,8 @@ pub fn as_expected(expected: &[Vec<u8>], end: &RunEnd) -> Done
     }
 }
 
-/// Returns the line of a final state that differs from what a text expects. None if the state has no line for it.
+/// Returns the line of a final state that differs from what a text expects: for `ended`, that of a thread that died, if all are
+/// over. None if the state has no line for the text.
 fn line_against<'a>(state: &'a [u8], text: &[u8]) -> Option<&'a [u8]> {
     if end_words(text).is_none() {
         return line_of(state, subject_of(text));
@@ -127,7 +128,7 @@ fn push_all_unmet<E: Sink>(
     Ok(())
 }
 
-/// Returns advice for a run that ended with this standing, where `text` was expected.
+/// Returns advice for a run that ended with this standing, where `text` was expected. `has_seed`: a seed chose the order.
 fn helps_at_end(text: &[u8], standing: Standing, has_seed: bool) -> &'static str {
     match standing {
         _ if has_seed => "`vuthgal draw FILE --plan '?SEED'` draws the run of this seed",

@@ -45,7 +45,8 @@ pub fn standard<'a>(report: &'a Report<'_>) -> Stream<'a> {
     Stream::Standard(report.kept(report.rt.stdin()))
 }
 
-/// Opens what an argument names: a file, or standard input for `-`; then a person reads `waiting`. Returns it with its name.
+/// Opens the file `word`, or standard input for `-`: then a person is shown `waiting`, which may be empty. Returns the stream
+/// with the name that reports show.
 pub fn open_named<'a, 'b>(
     report: &'a Report<'_>,
     word: &'b str,

@@ -47,8 +47,8 @@ fn played_often<R: Threads + Wait + Sync>(
     }
 }
 
-/// Plays the program in a file on real threads: once, and writes the trace, or `runs` times, and writes how the runs ended. With
-/// a `seed` the threads pause a little before some of their turns.
+/// Plays the program in a file on real threads: once, and writes the trace, or `runs` times, and writes how the runs ended.
+/// With a `seed` the threads pause a little before some of their turns.
 pub fn live<R: Threads + Wait + Sync>(
     threads: &R,
     report: &Report<'_>,
@@ -75,6 +75,7 @@ pub fn live<R: Threads + Wait + Sync>(
         return played_often(threads, report, file, program.image, &asked);
     }
     let mut output = block_port(report)?;
+    // The only run has number 0.
     let gate = asked.pauses.of_run(0, &NoGate);
     let alloc = report.alloc();
     let answer = shown::live(threads, alloc, limit, &gate, program.image, &mut output);
@@ -84,7 +85,7 @@ pub fn live<R: Threads + Wait + Sync>(
     }
 }
 
-/// Lets so many real threads meet at a shared phaser, so many rounds, and writes its state.
+/// Lets `parties` real threads meet at a shared phaser, `rounds` times, and writes its state.
 pub fn race<R: Threads + Wait + Sync>(
     threads: &R,
     report: &Report<'_>,

@@ -12,7 +12,7 @@ fn push_note(rt: &HostRuntime, text: &[u8]) {
     }
 }
 
-/// Says to a person at a terminal what is waited for.
+/// Says to a person what is waited for, if standard input is a terminal.
 pub fn push_waiting(report: &Report<'_>, text: &[u8]) {
     if report.rt.stdin().is_terminal() {
         push_note(report.rt, text);

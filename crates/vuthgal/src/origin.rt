@@ -2,4 +2,4 @@
 
 /// The version, and the sum of the sources but for this file.
 pub const VERSION: &str =
-    "2.0.0\nsources 41e0db84d26522c97d0fa611ab0f0979c58c967a0a39249c0bcadfbf7114d344";
+    "2.0.0\nsources 0dcc13ab491071150e890d12916bb60221136b34a35549cb7b8983c04d6bf21d";

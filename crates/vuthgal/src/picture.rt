@@ -22,7 +22,8 @@ use workbench::done::Done;
 use workbench::ending::flushed;
 use workbench::fault::Fault;
 
-/// Writes the picture of a program under a schedule. A person is told, too, which choice's thread doesn't exist.
+/// Writes the picture of a program under a schedule. Tells a person if there is no schedule, or which choice is that of a
+/// thread that doesn't exist.
 fn write_picture<P: Picture>(
     report: &Report<'_>,
     picture: &P,
@@ -34,7 +35,7 @@ fn write_picture<P: Picture>(
     let alloc = report.alloc();
     let mut schedule = Watched::new(alloc, ReadPort::new(choices.stream), choices.lines);
     let mut output = WritePort::new(report.kept(report.rt.stdout()));
-    // Below `.run` the whole schedule is in memory, so its fault is reported even behind too many choices.
+    // Below `.run` the whole schedule is in memory, so its fault is reported even if it follows too many choices.
     let to_end = matches!(origin, Origin::Beside);
     let answer = make(alloc, picture, program, &mut schedule, to_end, &mut output);
     match flushed(answer, &mut output) {
@@ -115,12 +116,12 @@ fn picture<P: Picture>(
 /// Writes the page of the program in a file.
 pub fn show(report: &Report<'_>, name: &str, steps: Steps<'_>) -> Result<Done, Reported> {
     let done = picture(report, &Page { frame: frame() }, name, steps)?;
-    // Behind the page, which is longer than a terminal.
+    // The note comes after the page, which is longer than a terminal: before it, nobody would see the note.
     notes::push_page_on_terminal(report);
     Ok(done)
 }
 
-/// Draws the run of the program in a file, in lines of at most so many bytes.
+/// Draws the run of the program in a file, in lines of at most `width` bytes.
 pub fn draw(
     report: &Report<'_>,
     name: &str,

@@ -20,7 +20,8 @@ use trace_text::RunEnd;
 use workbench::done::Done;
 use workbench::ending::{flushed, passed_on};
 
-/// Returns what the program's file holds, and the plan with its name, after both are opened. Without a plan it is empty.
+/// Returns what the program's file holds, and the plan with its name. Both are opened before one is read. Without a plan, its
+/// name and text are empty.
 fn inputs<'a>(
     report: &Report<'_>,
     file: &str,
@@ -46,7 +47,8 @@ fn file_of<'a>(name: &'a str, bytes: &'a [u8]) -> ProgramFile<'a> {
     }
 }
 
-/// Writes the schedule of a plan, or of standard input, on the program in a file, with the threads' names if asked for.
+/// Writes the schedule of a plan for the program in a file, with the threads' names if `has_names`. Without `plan`, standard
+/// input is the plan.
 pub fn plan(
     report: &Report<'_>,
     file: &str,

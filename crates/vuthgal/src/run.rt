@@ -28,7 +28,7 @@ use workbench::run_line::split_at_run;
 const SCHEDULE_ENDS: &str =
     "live: some threads could still continue; a plan with `..` at its end plays on";
 
-/// The same if there is no schedule.
+/// What `live` means if there is no schedule.
 pub const NO_SCHEDULE: &str =
     "there is no line `.run`, so nothing is played: `--plan '..'` plays all threads in turn";
 
@@ -65,7 +65,7 @@ impl<'a> Choices<'a> {
         Choices::of_stream(name, Stream::Text(schedule))
     }
 
-    /// Returns the schedule of this name. A text is that of a plan.
+    /// Returns the schedule that a stream of this name holds. If the stream is a text in memory, a plan stands for it.
     pub fn of_stream(name: &'a str, stream: Stream<'a>) -> Choices<'a> {
         Choices {
             name,
@@ -81,7 +81,8 @@ impl<'a> Choices<'a> {
     }
 }
 
-/// Returns `Unlike`, and reports it, if a run didn't end as expected. If a thread can still continue, a person reads `live`.
+/// Returns `Unlike`, and reports it, if a run didn't end as expected. Otherwise shows a person `live` if a thread can still
+/// continue.
 pub fn report_end(
     report: &Report<'_>,
     program: &[u8],
@@ -98,7 +99,7 @@ pub fn report_end(
     done
 }
 
-/// Reports a fault of a run of the program of this file.
+/// Reports a fault of a run of the program in `file`. `input` is the name of what couldn't be read, if that is the fault.
 pub fn fail(report: &Report<'_>, file: ProgramFile<'_>, input: &str, fault: Fault) -> Reported {
     match fault {
         Fault::Load(fault) => fail_to_load(report, file, fault),

@@ -30,7 +30,7 @@ pub enum OpenSteps<'a> {
     Plan(&'a str, Vec<u8>),
 }
 
-/// Opens what steps name: a schedule may be standard input, a trace stands in a file. The file of a plan is read.
+/// Opens the file that these steps name. Only a schedule may be standard input. The file of a plan is read to its end.
 fn open_steps<'a>(report: &'a Report<'_>, steps: Steps<'a>) -> Result<OpenSteps<'a>, Reported> {
     match steps {
         Steps::Beside => Ok(OpenSteps::Beside),
@@ -54,7 +54,7 @@ fn open_steps<'a>(report: &'a Report<'_>, steps: Steps<'a>) -> Result<OpenSteps<
     }
 }
 
-/// Returns what a program's file, or standard input, holds, after the file of the steps is opened, too.
+/// Returns what a program's file, or standard input, holds. It is read only after the file of the steps is opened, too.
 pub fn opened<'a>(
     report: &'a Report<'_>,
     file: Option<&str>,
@@ -98,6 +98,7 @@ pub fn fail_at_plan(
 ) -> Reported {
     match why {
         Unplanned::Plan(fault) => {
+            // `plan::fail` requires that there are at most 64 names.
             let names = names.get(..MOST_THREADS).unwrap_or(names);
             plan::fail(report, plan, names, fault)
         }

@@ -20,7 +20,7 @@ use workbench::done::{Done, as_asked};
 use workbench::ending::{flushed, passed_on};
 use workbench::fault::Fault;
 
-/// The status if no line has the words that are to be explained.
+/// The exit status if `explain` doesn't know the words.
 const NO_LINE: u8 = 2;
 
 /// Returns whether two open files are the same regular file, by whatever names: writing one would destroy the other.
@@ -37,7 +37,8 @@ fn make_empty(file: &File) -> io::Result<()> {
     Ok(())
 }
 
-/// Opens a file to write to. It is made if it doesn't exist, and made empty, but not if it is the file that is read from.
+/// Opens a file to write to it. If it doesn't exist, it is made. It is then made empty, unless it is the file that is read
+/// from: that is reported.
 fn create(report: &Report<'_>, name: &str, source: &File) -> Result<File, Reported> {
     let failed = |error: io::Error| files::fail_to_create(report, name, &error);
     let file = OpenOptions::new()
@@ -64,7 +65,7 @@ fn write_image(report: &Report<'_>, text: &[u8], file: File) -> Result<(), Fault
 }
 
 /// Writes the image of the text in one file to another. Both are opened first. The image's file is closed before a failure is
-/// reported: it may have the number of standard error if that was closed.
+/// reported: it may have the file descriptor of standard error, if that was closed.
 pub fn asm(report: &Report<'_>, source: &str, image: &str) -> Result<Done, Reported> {
     let input = input::open(report, source)?;
     let out = create(report, image, &input)?;
@@ -92,7 +93,7 @@ pub fn list(report: &Report<'_>, name: &str, has_rows: bool) -> Result<Done, Rep
     as_asked(flushed(answer, &mut output)).map_err(|fault| fail(report, file, name, fault))
 }
 
-/// Returns the words of these texts, one text after another.
+/// Returns the words of these texts. An argument in quotes is one text, but may have several words.
 fn words_of<'a>(alloc: Global, texts: &[&'a str]) -> Result<Vec<&'a str>, AllocError> {
     let mut words = Vec::new(alloc);
     for text in texts {

@@ -28,6 +28,7 @@ pub fn compare(
     let bytes = input::contents(report, name, stream)?;
     let file = ProgramFile::whole(name, bytes.as_slice());
     let image = input::program(report, file)?.image;
+    // 0: no lines of its file precede the trace.
     let mut watched = Watched::new(report.alloc(), ReadPort::new(read), 0);
     let stdout = report.kept(report.rt.stdout());
     let mut output = WritePort::new(printable::output(report.rt, stdout));
@@ -50,6 +51,7 @@ pub fn compare(
 /// Writes the schedule of a trace. Returns `Unlike`, which is status 1, if the file is no trace.
 pub fn choices(report: &Report<'_>, trace: &str) -> Result<Done, Reported> {
     let (name, stream) = input::open_named(report, trace, b"")?;
+    // 0: no lines of its file precede the trace.
     let mut watched = Watched::new(report.alloc(), ReadPort::new(stream), 0);
     let mut output = block_port(report)?;
     let answer = commands::choices::choices(report.alloc(), &mut watched, &mut output);

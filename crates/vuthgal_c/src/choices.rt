@@ -11,7 +11,7 @@ use workbench::done::{self, Done};
 use workbench::fault::Fault;
 use workbench::slice_source::SliceSource;
 
-/// Returns the exit status: 0 for a trace (`Ok(true)`), 1 if it was none, or that of a fault, whose line goes to `line`.
+/// Returns the exit status: 0 for a trace (`Ok(true)`), 1 if the input is none, or a fault's. Writes a fault's line to `line`.
 fn settled<E: Sink>(answer: Result<bool, Fault>, line: &mut E) -> u8
     ensures { IsSettledBy done_by_trace answer result (E.has_failed line.new) (E.written line.old) (E.written line.new) }
 {
@@ -22,7 +22,8 @@ fn settled<E: Sink>(answer: Result<bool, Fault>, line: &mut E) -> u8
     }
 }
 
-/// Writes the schedule of `trace` and a fault's line, as far as they fit, and their lengths. Returns 0, 1 for no trace, 4 or 5.
+/// Writes the schedule of `trace` and a fault's line, as far as they fit, and their lengths. Returns 0, 1 if `trace` is no
+/// trace, or 4 or 5 for a fault.
 #[unsafe(no_mangle)]
 pub extern "C" fn vuthgal_choices(
     alloc: Global,

@@ -51,7 +51,7 @@ fn explained<K: Sink>(
     }
 }
 
-/// Returns the exit status: 0 if an entry was written, 2 if there is none, or a fault's. Unless it is 0, `line` says why.
+/// Returns the exit status: 0 if an entry was written, 2 if there is none, or a fault's. Except with 0, `line` says why.
 fn settled<E: Sink>(answer: Result<bool, Fault>, line: &mut E) -> u8
     ensures { SettlesExplaining NO_LINE.now answer result (E.has_failed line.new) (E.written line.old) (E.written line.new) }
 {
@@ -65,7 +65,8 @@ fn settled<E: Sink>(answer: Result<bool, Fault>, line: &mut E) -> u8
     }
 }
 
-/// Writes what `words` mean and a fault's line, as far as they fit, and their lengths. Returns 0, 2 if unknown, 4 or 5.
+/// Writes what `words` mean and a fault's line, as far as they fit, and their lengths. Returns 0, 2 if no entry has these
+/// words, or 4 or 5 for a fault.
 #[unsafe(no_mangle)]
 pub extern "C" fn vuthgal_explain(
     alloc: Global,

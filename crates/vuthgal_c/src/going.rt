@@ -78,7 +78,7 @@ fn go_to(alloc: Global, held: &mut Held, played: &[u8], number: u64) -> Result<(
 
 /// Goes to the state after the first `number` choices of `played`, the schedule of what was played from the beginning on.
 /// Returns 0; 6 if no session is open; 1 if `played` has fewer choices; 3 if it is no schedule; 5 if it is too long; 7 or 8 if
-/// one of these choices is refused; or 4 without memory. Unless it is 0, nothing changes.
+/// one of these choices is refused; or 4 without memory. With any status but 0, nothing changes.
 #[unsafe(no_mangle)]
 pub extern "C" fn vuthgal_session_go_to(
     alloc: Global,

@@ -5,10 +5,10 @@ ghost use Rattle.vuthgal_c.specs.Shows.{Holds};
 
 use byte_ports::CountingSink;
 
-/// The line where there is no memory.
+/// The line that says that a call is out of memory.
 pub const NO_MEMORY: &[u8] = b"memory\n";
 
-/// Copies as many of `count` bytes as fit to `room`, and sets `told` to `count`. `first` is the part of them that was kept.
+/// Copies as many of `count` bytes as fit to `room`, and sets `told` to `count`. `first` has at least those that fit.
 fn hand(first: &[u8], count: usize, room: &mut [u8], told: &mut usize)
     requires { min count (length room.old) ≤ length first.now }
     ensures { (bytes : List ℕ) → AreFirst first.now bytes → count ≡ min (length bytes) most_counted

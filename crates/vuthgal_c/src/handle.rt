@@ -13,6 +13,7 @@ use std::ptr::null_mut;
 #[repr(C)]
 pub struct Handle {
     at: *mut u8,
+    /// 1 if it has a session, else 0.
     alive: u64,
     pub ghost session: { Option Kept },
 }
@@ -34,7 +35,7 @@ impl Handle {
         }
     }
 
-    /// Makes the handle of the session in the block `loose`, which it then owns.
+    /// Makes the handle of the session in the block `loose`. The handle then owns the block.
     pub(crate) fn of(loose: Loose<Held, Global>) -> Handle
         ensures { result.session ≡ Some loose.value }
     {

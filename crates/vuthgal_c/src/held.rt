@@ -33,7 +33,7 @@ impl Model for Held {
     ghost view = { λ held. record { debugger = held.debugger; reply = held.reply.items; image = held.image } };
 }
 
-/// How a command ends where it has no reply, since there is no memory.
+/// How a command ended that has no reply, because it was out of memory.
 pub enum Unanswered {
     /// It was not carried out.
     NotCarriedOut,
@@ -91,7 +91,7 @@ impl Held {
         self.debugger.machine()
     }
 
-    /// Plays a choice. Returns what it did. If it is refused, nothing changes.
+    /// Plays a choice. Returns what it did, and the row that its thread was at before. If it is refused, nothing changes.
     pub fn step(&mut self, choice: Choice) -> Result<EventLook, StepFault>
         ensures done { IfOk result (λ event. HasStepped self.old choice self.new event) }
         ensures refused { IfErr result (λ fault. Refuses (world_of self.old.debugger.machine) choice fault) }

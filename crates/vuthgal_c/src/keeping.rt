@@ -1,4 +1,4 @@
-//! A session in a handle.
+//! A session in a handle. A call takes the session out of its handle, uses it, and puts it back.
 ghost use Rattle.std.specs.Prelude.{◌≡◌, Some, None};
 ghost use Rattle.std.specs.Option.{MatchOption};
 
@@ -8,7 +8,7 @@ use crate::loose::Loose;
 use std::alloc::Global;
 use std::mem::replace;
 
-/// Returns the session of a handle, or `None` if it has none. It uses the handle up.
+/// Returns the session of a handle, which is used up. Returns `None` if the handle has none.
 fn into_box(handle: Handle, alloc: Global) -> Option<Box<Held>>
     ensures { MatchOption result (handle.session ≡ None) (λ b. handle.session ≡ Some b.value) }
 {

@@ -19,7 +19,7 @@ pub struct StateLook {
     pub threads: u8,
     pub phasers: u8,
     pub barriers: u8,
-    /// 0 live, 1 stuck, 2 all.
+    /// 0 live, 1 stuck, 2 all have ended or died.
     pub standing: u8,
 }
 

@@ -15,7 +15,7 @@ use instruction_table::Reg;
 use thread_machine::Machine;
 use tier_tree::{Forest, PhaserId};
 
-/// Returns the counts of a machine's state. `is_forest` does nothing but state that its phasers are few.
+/// Returns the counts of a machine's state. `is_forest` only proves that the number of phasers fits `u8`.
 pub fn state_look(machine: &Machine) -> StateLook
     ensures { result ≡ state_look (world_of machine.now) }
 {
@@ -97,7 +97,7 @@ pub fn see_threads(machine: &Machine, room: &mut [ThreadLook])
     }
 }
 
-/// Fills a caller's room with the phasers of a machine, as many as fit. `is_forest` does nothing but state that they are few.
+/// Fills a caller's room with the phasers of a machine, as many as fit. `is_forest` only proves that their numbers fit `u8`.
 pub fn see_phasers(machine: &Machine, room: &mut [PhaserLook])
     ensures { PhasersAreSeen (world_of machine.now) room.old room.new }
 {

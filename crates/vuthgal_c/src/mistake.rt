@@ -35,7 +35,7 @@ use workbench::run_line::split_at_run;
 /// Room for the line of a refusal.
 const LONGEST_LINE: usize = 64;
 
-/// The number of a plan, and of a schedule, as a kind of input.
+/// The numbers of a plan, here, and of a schedule, below, as kinds of input. The program has 0.
 const PLAN: u8 = 1;
 
 const SCHEDULE: u8 = 2;
@@ -83,7 +83,8 @@ impl Mistake {
     }
 }
 
-/// Returns the part of a file that is read as its program. After a line `.run` there may be a schedule, which is no part of it.
+/// Returns the part of a file that is read as its program. For a plan and a text this ends at the line `.run`, which a schedule
+/// follows. Any other file is all program.
 fn text_in(kind: Kind, file: &[u8]) -> &[u8]
     ensures { result.now ≡ text_in kind file.now }
 {
@@ -135,7 +136,7 @@ fn is_text(kind: Kind) -> bool
     matches!(kind, Kind::Text)
 }
 
-/// Returns the program in a file, without the schedule that may follow it, or the mistake if there is none.
+/// Returns the program in a file, without the schedule that may follow it, or the mistake if the file has no program.
 fn program_of(alloc: Global, kind: Kind, file: &[u8]) -> Result<Program<'_>, Mistake>
     ensures program { IfOk result (λ program. IsProgramOf kind file.now program) }
     ensures none { IfErr result (λ mistake. LacksProgram kind file.now mistake.why mistake.place) }
@@ -197,7 +198,8 @@ fn offset_of(fault: ScheduleFault) -> u64
     }
 }
 
-/// Reads a schedule, which is the end of `file`. Fails with its mistake if it has one: the place is counted in `file`.
+/// Reads a schedule, which is the end of `file`. If it has a mistake, fails with that: the place is counted in `file`, of which
+/// `input` is the kind. `origin` says where the schedule is from, on which the advice depends.
 fn schedule_read(
     alloc: Global,
     file: &[u8],
@@ -252,6 +254,7 @@ fn looked_at(alloc: Global, kind: Kind, file: &[u8], input: &[u8]) -> Result<(),
 
 /// Returns the general line of help for this kind of refusal, as `vuthgal explain` has it, or `None` if it has none.
 fn entry_hint(alloc: Global, why: Unplanned) -> Hint {
+    // None: no write fails before the room is used up.
     let mut line = MemorySink::new(alloc, LONGEST_LINE, None)?;
     if why.tell(&mut line).is_err() {
         return Ok(None);
@@ -260,7 +263,7 @@ fn entry_hint(alloc: Global, why: Unplanned) -> Hint {
     help_if_any(alloc, (!helps.is_empty()).then_some(helps))
 }
 
-/// Writes the line that helps with the wrong word, or else with the refusal. `let _`: one that can't be written is left out.
+/// Writes the line that helps with the wrong word, or else with the refusal. `let _`: a line that fails is left out.
 fn push_hint<K: Sink>(alloc: Global, mistake: &Mistake, output: &mut K) {
     let hint = match &mistake.hint {
         Ok(Some(line)) => {
@@ -276,8 +279,8 @@ fn push_hint<K: Sink>(alloc: Global, mistake: &Mistake, output: &mut K) {
 
 /// Looks for the first mistake in the program in `file`, or in its plan or schedule in `input`, as `kind` says. If it finds one
 /// (the reason's status is 3), it writes the line that helps to `output`, sets `place`, and fails with the reason. It also
-/// fails if it is out of memory (4) or a text is too long (5). Then, and if there is no mistake, it writes nothing, and `place`
-/// is no place.
+/// fails if it is out of memory (4) or a text is too long (5). In these two cases, and if there is no mistake, it writes
+/// nothing, and `place` is no place.
 fn find_mistake<K: Sink>(
     alloc: Global,
     kind: Kind,
@@ -307,8 +310,9 @@ fn find_mistake<K: Sink>(
     }
 }
 
-/// Writes where `program`, or `input`, a plan or schedule of it by `kind`, is refused: the word to `place`, what helps to
-/// `output`, and the refusal's line to `line`, as far as they fit, and lengths. Returns 0 if it isn't, 3 if it is, or 4 or 5.
+/// Looks for the first mistake in `program`, or in `input`, a plan or a schedule of it by `kind`. Writes the wrong word's place
+/// to `place`, what helps to `output`, and the refusal's line to `line`, as far as they fit, and their lengths. Returns 0 if
+/// there is no mistake, 3 if there is one, or 4 or 5 for another fault.
 #[unsafe(no_mangle)]
 pub extern "C" fn vuthgal_mistake(
     alloc: Global,
@@ -335,6 +339,7 @@ pub extern "C" fn vuthgal_mistake(
     );
     let status = settled_unplanned(answer, &mut reply.told);
     let status = reply.hand(status, output, output_length, line, line_length);
+    // The place is already set if `hand` had no memory for the reply, and returned 4.
     if status != 3 {
         *place = PlaceLook::none();
     }

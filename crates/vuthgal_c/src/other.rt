@@ -45,7 +45,7 @@ impl NoOther {
     }
 }
 
-/// Returns the choices with which the run goes on, read from the schedule `rest`. Fails if it is too long, or isn't one.
+/// Returns the choices with which the run goes on, read from the schedule `rest`. Fails if `rest` is too long or no schedule.
 fn own_choices(alloc: Global, rest: &[u8]) -> Result<Vec<Choice>, NoOther>
     ensures own { IfOk result (λ own. AreChoicesIn rest.now own.items) }
     ensures refused { result ≡ Err NoOther.Rest → IsRefusedRest rest.now }
@@ -76,7 +76,8 @@ fn schedule_of_other(
     write_schedule(alloc, planned.runs.as_slice())
 }
 
-/// Returns the schedule of a run that makes `choice` now, where this run goes on with `rest`. Fails if one of them is refused.
+/// Returns the schedule of a run that makes `choice` now, where this run goes on with `rest`. Fails if the thread doesn't
+/// exist, `rest` is refused, or it is out of memory.
 fn other_text(
     alloc: Global,
     machine: &Machine,
@@ -101,8 +102,9 @@ fn other_text(
     }
 }
 
-/// Writes the schedule of another run that makes a choice in this session's state, where its own run goes on with `rest`: at
-/// most `most` choices. Returns 0; 6 if no session is open; 7 without such a thread; 3 for a wrong `rest`; 4 without memory.
+/// Writes the schedule of another run, of at most `most` choices. It begins in this session's state with a thread's turn, or,
+/// if `expiry` isn't 0, with the expiry of its wait. The session's own run goes on with `rest`. Returns 0; 6 if no session is
+/// open; 7 without such a thread; 3 for a wrong `rest`; 4 without memory.
 #[unsafe(no_mangle)]
 pub extern "C" fn vuthgal_session_other(
     alloc: Global,

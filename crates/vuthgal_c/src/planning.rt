@@ -24,7 +24,7 @@ use workbench::fault::Fault;
 const MOST_SEEDS: u32 = 100_000;
 
 /// Writes the schedule that a plan makes for a program, of at most `most` choices, with the threads' names if `has_names`.
-/// Returns whether the plan was cut off there. If it fails other than by `Write`, nothing is written.
+/// Returns whether the plan was cut off at `most`. If it fails other than by `Write`, nothing is written.
 fn push_plan<K: Sink>(
     alloc: Global,
     program: Program<'_>,
@@ -48,7 +48,7 @@ fn push_plan<K: Sink>(
 }
 
 /// Writes the schedule that the plan `steps` makes for `file`'s program, of at most `most` choices. Returns whether the plan
-/// was cut off there. Fails with `Read` if an input is too long.
+/// was cut off at `most`. Fails with `Read` if an input is too long.
 fn planned<K: Sink>(
     alloc: Global,
     file: &[u8],
@@ -80,7 +80,7 @@ fn push_stopped<E: Sink>(line: &mut E, most: u32) -> Result<(), Failed>
     line.push(b" choices\n")
 }
 
-/// Returns the exit status: 0, 1 if the plan was cut off (`Ok(true)`), or a fault's. Unless it is 0, `line` says why.
+/// Returns the exit status: 0, 1 if the plan was cut off (`Ok(true)`), or a fault's. Except with 0, `line` says why.
 fn settled<E: Sink>(answer: Result<bool, Unplanned>, most: u32, line: &mut E) -> u8
     ensures { SettlesPlan most answer result (E.has_failed line.new) (E.written line.old) (E.written line.new) }
 {
@@ -182,8 +182,7 @@ fn reported<K: Sink>(
     }
 }
 
-/// Returns the exit status of an answer that can't be cut off: 0, or its fault's. Writes the fault's line to `line`. The status is
-/// the same if that fails.
+/// Returns the exit status: 0, or a fault's, whose line is written to `line`. The status is the same if that fails.
 pub fn settled_unplanned<E: Sink>(answer: Result<(), Unplanned>, line: &mut E) -> u8
     ensures { SettlesUnplanned answer result (E.has_failed line.new) (E.written line.old) (E.written line.new) }
 {
@@ -196,9 +195,9 @@ pub fn settled_unplanned<E: Sink>(answer: Result<(), Unplanned>, line: &mut E) -
     }
 }
 
-/// Plays `plan` and then an order by each of `count` seeds, at most 100,000, from `first` on: of at most `limit` choices, if
-/// that isn't 0. Writes a line for each state that a run ended in to `output` and a fault to `line`, as far as they fit, and
-/// their lengths. Returns 0, or 3 to 5 for a fault.
+/// Plays `program` once for each of `count` seeds from `first` on, at most 100,000: `plan`, and then an order by the seed. If
+/// `limit` isn't 0, an order has at most `limit` choices. Writes a line for each state that a run ended in to `output` and a
+/// fault to `line`, as far as they fit, and their lengths. Returns 0, or 3 to 5 for a fault.
 #[unsafe(no_mangle)]
 pub extern "C" fn vuthgal_seeds(
     alloc: Global,

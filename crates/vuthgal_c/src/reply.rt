@@ -16,7 +16,7 @@ pub struct Reply {
 }
 
 impl Reply {
-    /// Makes an empty reply that keeps at most `output` bytes of the output and `line` bytes of the line: all that fit later.
+    /// Makes an empty reply for a caller with room for `output` and `line` bytes. It keeps no bytes that don't fit there.
     pub fn new(alloc: Global, output: usize, line: usize) -> Reply
         ensures shown { result.shown.written ≡ [] }
         ensures told { result.told.written ≡ [] }
@@ -27,8 +27,8 @@ impl Reply {
         }
     }
 
-    /// Copies the output and the line to the caller. Returns `status`. If bytes that fit weren't kept, it copies only the line
-    /// `memory`, and returns 4.
+    /// Copies the output and the line to the caller. Returns `status`. If there was no memory to keep bytes that fit, it copies
+    /// only the line `memory`, and returns 4.
     pub fn hand(
         &self,
         status: u8,

@@ -174,8 +174,8 @@ fn boxed_copy(alloc: Global, held: &Held) -> Result<Box<Held>, AllocError>
     }
 }
 
-/// Makes `to` a session in the state of `from`, and closes the one that was there. Returns 0, or 6 if `from` isn't open, or 4
-/// if it is out of memory: then `to` is as before.
+/// Makes `to` a session in the state of `from`, and closes the one that `to` had. Returns 0, or 6 if `from` isn't open, or 4 if
+/// it is out of memory. With 4 and 6, `to` is as before.
 #[unsafe(no_mangle)]
 pub extern "C" fn vuthgal_session_copy(alloc: Global, from: &mut Handle, to: &mut Handle) -> u8
     ensures to { Copies from.old.session to.old.session to.new.session result }

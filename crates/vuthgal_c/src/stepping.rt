@@ -9,7 +9,7 @@ use crate::sessions::{CLOSED, NO_THREAD};
 use std::alloc::Global;
 use thread_machine::{Choice, StepFault};
 
-/// Returns the number that a call returns for a refused choice: 7 without such a thread, 8 at the limit of steps, or else 4.
+/// Returns a call's number for a refused choice: 7 without such a thread, 8 at the limit of steps, 4 without memory.
 pub fn refused_status(fault: StepFault) -> u8
     ensures { result ≡ refused_status fault }
 {
@@ -21,7 +21,7 @@ pub fn refused_status(fault: StepFault) -> u8
 }
 
 /// Plays a choice: a thread's turn, or, if `expiry` isn't 0, the expiry of its wait. `event` gets what it did. Returns 0; 6 if
-/// no session is open; 7 without such a thread; 8 at the limit of steps; 4 without memory. Unless it is 0, nothing changes.
+/// no session is open; 7 without such a thread; 8 at the limit of steps; 4 without memory. Except for 0, nothing changes.
 #[unsafe(no_mangle)]
 pub extern "C" fn vuthgal_session_step(
     alloc: Global,
@@ -51,7 +51,7 @@ pub extern "C" fn vuthgal_session_step(
     status
 }
 
-/// Takes back the last choice. Returns 0, or 1 if none is kept, or 6 if no session is open. It allocates nothing.
+/// Takes back the last choice. Returns 0, or 1 if none is kept for that, or 6 if no session is open. It allocates nothing.
 #[unsafe(no_mangle)]
 pub extern "C" fn vuthgal_session_back(alloc: Global, session: &mut Handle) -> u8
     ensures { Backs session.old.session session.new.session result }

@@ -5,7 +5,7 @@ ghost use Rattle.vuthgal_c.specs.Shows.{Holds};
 use crate::handing::hand_all;
 use crate::origin::{NUMBER, VERSION};
 
-/// Writes the version, and the sum of the sources, a line each.
+/// Writes the version, and a checksum of the sources, a line each.
 #[unsafe(no_mangle)]
 pub extern "C" fn vuthgal_version(output: &mut [u8], output_length: &mut usize)
     ensures { Holds output.old output.new output_length.new VERSION.now }

@@ -9,7 +9,7 @@ use byte_ports::Source;
 use debugger::Debugger;
 
 /// A source of a session's lines, which sees the debugger before each of them. A source of bytes returns its lines as they are,
-/// and doesn't look.
+/// and ignores the debugger.
 pub trait Companion {
     // The bytes of the lines that are left. `None`: they aren't told.
     ghost left: { Self → Option (List ℕ) };
@@ -19,7 +19,7 @@ pub trait Companion {
 
     /// Puts the next line, without its LF, in place of what `line` holds. Returns true if it had an LF, and false if the lines
     /// end with it. It reads no byte after the LF, so the reply can be written before the next line is there. `reads` is how
-    /// many bytes may still be read: it fails with `Read` if they don't suffice.
+    /// many bytes may still be read: if they don't suffice, this fails with `Read`.
     fn next_line(
         &mut self,
         debugger: &Debugger,

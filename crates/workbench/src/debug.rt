@@ -97,8 +97,8 @@ pub fn debug_behind<C: Companion, K: Sink>(
     }
 }
 
-/// Plays the choices of a trace as they are read, writes the reply of the command `g`, and carries out the lines of
-/// `commands`. If it isn't a trace, it writes `not a trace LINE` for the first wrong line, and reads no command.
+/// Plays the choices of a trace as they are read, writes the reply of the command `g`, and carries out the lines of `commands`.
+/// If `trace` isn't a trace, it writes `not a trace LINE` for the first wrong line, and reads no command.
 pub fn debug_at<T: Source, C: Companion, K: Sink>(
     alloc: Global,
     image: Image,
@@ -126,11 +126,11 @@ pub fn debug_at<T: Source, C: Companion, K: Sink>(
     }
 }
 
-/// The result of a trace whose choices are played as it is read.
+/// The result of playing the choices of a trace as the trace is read.
 enum PlayedTrace {
-    /// They went so far.
+    /// The choices were played up to this stop.
     To(Stop),
-    /// It is none: this line, counted from 1, is the first that is no line of a trace.
+    /// It is no trace: this line, counted from 1, is the first that is no line of a trace.
     NotATrace { line: u64 },
 }
 
@@ -152,6 +152,7 @@ fn play_trace<T: Source>(
     let Ok(mut lines) = SourceLines::new(alloc) else {
         return Err(Fault::Memory);
     };
+    // No choice is played yet, so the first one may be.
     let mut stop = Stop::End(0);
     for before in 0..MOST_LINES {
         match next_name(&mut lines, trace) {

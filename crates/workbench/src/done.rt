@@ -38,7 +38,7 @@ pub fn as_asked<T: Drop>(answer: Result<T, Fault>) -> Result<Done, Fault>
     }
 }
 
-/// Returns status 0 for any result that is no fault, and otherwise the fault's. Its line is written to `errors`, if that works.
+/// Returns status 0 for any result that is no fault, or the fault's status. Writes the fault's line to `errors`, if that works.
 pub fn settled_as_asked<T: Drop, E: Sink>(answer: Result<T, Fault>, errors: &mut E) -> u8
     ensures { IsSettledBy as_asked answer result (E.has_failed errors.new) (E.written errors.old) (E.written errors.new) }
 {

@@ -86,7 +86,7 @@ impl Fault {
     }
 }
 
-/// Returns the exit status of a fault in an input, by its number: 3, or 4 without a number. Only out of memory has none here.
+/// Returns the exit status of a fault in an input, by the number of its kind: 3, or 4 for out of memory, which has no number.
 fn refusal_status(number: Option<u8>) -> u8
     ensures { result ≡ refusal_status number }
 {
@@ -131,7 +131,8 @@ fn push_declare_place<E: Sink>(errors: &mut E, phaser: u8, why: u8) -> Result<()
 }
 
 impl Fault {
-    /// Returns the number of a refusal's kind, or `None` if this is out of memory or no refusal.
+    /// Returns the number of the kind of a fault in a text, an image, a program or a schedule. `None`: it is out of memory, or
+    /// another fault.
     fn number(self) -> Option<u8>
         ensures { result ≡ number_of self }
     {
@@ -200,7 +201,7 @@ impl Fault {
         }
     }
 
-    /// Writes a refusal's line: its words, number and place. Out of memory is the line `memory`.
+    /// Writes a refusal's line: its words, number and place. A fault without a number is out of memory: the line is `memory`.
     fn push_refusal<E: Sink>(self, errors: &mut E) -> Result<(), Failed>
         ensures bytes { OnOk result (Appends (E.written errors.old) (E.written errors.new)
             (refusal_line (word_of self) (number_of self) (place_of self))) }

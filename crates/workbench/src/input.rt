@@ -41,7 +41,7 @@ pub fn append(bytes: &mut Vec<u8>, piece: &[u8]) -> Result<(), Fault>
     bytes.extend_from_slice(piece).map_err(|_| Fault::Memory)
 }
 
-/// Reads a source to its end, and returns the bytes. Fails with `Read` if it fails or has more than 16,777,216 bytes.
+/// Reads a source to its end, and returns the bytes. Fails with `Read` if the source fails or has more than 16,777,216 bytes.
 pub fn read_all<S: Source>(alloc: Global, source: &mut S) -> Result<Vec<u8>, Fault>
     ensures bytes { IfOk result (λ bytes. Consumes (S.left source.old) (S.left source.new) bytes.items) }
     ensures end { IfOk result (λ bytes. IsAtEnd (S.left source.new)) }

@@ -46,7 +46,7 @@ pub fn live_cmd<R: Threads + Wait + Sync, F: Source, K: Sink, E: Sink>(
 }
 
 /// Plays an image's program on real threads, writes the trace of the choices that they made, and returns how the run has ended.
-/// Each thread passes `gate` before it takes the lock. So the gate decides which run it is, and nothing else.
+/// Each thread passes `gate` before it takes the lock. So the gate only decides in which order the choices are made.
 pub fn live<R: Threads + Wait + Sync, G: Gate + Sync, K: Sink>(
     rt: &R,
     alloc: Global,
@@ -102,7 +102,8 @@ pub fn fault_of_live(fault: LiveFault) -> Fault
     }
 }
 
-/// Returns the choices of a live run, read from its schedule, which fails only without memory, or why it was broken off.
+/// Returns the choices of a live run, read from its schedule, or why the run was broken off. Reading the schedule fails only if
+/// out of memory.
 fn runs_of(alloc: Global, ran: Result<LiveRun, LiveFault>) -> Result<Vec<Run>, Fault>
     requires few { IfOk ran (λ run. length run.schedule.items ≤ 4000000000) }
     ensures runs { IfOk result (λ runs. All IsRun runs.items) }

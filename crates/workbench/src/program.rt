@@ -17,7 +17,7 @@ use std::alloc::Global;
 pub struct Program<'a> {
     pub bytes: &'a [u8],
     pub image: Image,
-    /// None of an image.
+    /// An image has none.
     pub names: Symbols<'a>,
 }
 

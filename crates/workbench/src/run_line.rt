@@ -15,7 +15,7 @@ fn count_words(text: &[u8]) -> usize
         .count()
 }
 
-/// Returns whether each word of a text is `.run`. This is so if it has none.
+/// Returns whether each word of a text is `.run`. A text without words has only such words.
 fn has_only_run(text: &[u8]) -> bool
     ensures { result ≡ list_all (λ word. bytes_eq word (codes ".run")) (words_in text.now) }
 {
@@ -33,7 +33,7 @@ fn is_run_line(line: &[u8]) -> bool
     count_words(text) == 1 && has_only_run(text)
 }
 
-/// Returns the first line without its LF, and what follows the LF: nothing if there is none.
+/// Returns the first line without its LF, and what follows the LF: nothing if there is no LF.
 fn first_line(bytes: &[u8]) -> (&[u8], &[u8])
     ensures line { result.0.now ≡ before_first is_line_end bytes.now }
     ensures after { result.1.now ≡ after_first is_line_end bytes.now }

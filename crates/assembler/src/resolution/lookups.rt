@@ -95,8 +95,8 @@ pub fn thread_of<'a>(draft: &Draft<'a>, thread: &SymbolicThread<&'a [u8]>) -> Op
     Some(DeclaredThread { first_row })
 }
 
-/// Returns these operands with one more before them. A register becomes `a`, and those in `a` and `b` become `b` and `c`.
-/// Another operand goes to its field, the number of a named object too. `None`: the operand is an unknown name.
+/// Returns `operands` with `operand` before them. A register becomes `a`, and those in `a` and `b` become `b` and `c`. Any
+/// other operand goes to its field: a name as the number of what it names. `None`: the operand is an unknown name.
 #[inline(always)]
 fn with_operand<'a>(
     draft: &Draft<'a>,

@@ -6,8 +6,8 @@ ghost use Rattle.command_line.specs.Input.{left_of};
 use std::io;
 use std::io::Read;
 
-/// A file that an argument names, standard input, or what is left of a text. It does the same with any reader for the first
-/// two, so its behaviour can't depend on whether they tell what is left of them.
+/// A file that an argument names, standard input, or the rest of a text. For the first two it takes any readers: so its
+/// behaviour can't depend on whether they tell what is left of them.
 #[derive(Drop)]
 pub enum InputOf<'a, F, S> {
     File(F),

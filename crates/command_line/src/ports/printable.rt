@@ -18,7 +18,7 @@ pub struct Printable<W> {
     is_terminal: bool,
 }
 
-/// Returns a writer for standard output over this one, which writes there.
+/// Returns a writer over `writer`, which writes to standard output. `rt` says whether standard output is a terminal.
 pub fn output<W>(rt: &HostRuntime, writer: W) -> Printable<W>
     ensures { result.writer ≡ writer }
 {
@@ -65,7 +65,7 @@ impl<W: Write> Write for Printable<W> {
     // What a terminal shows is unknown.
     ghost contents = { λ w. if w.is_terminal then None else W.contents w.writer };
 
-    /// Writes bytes, to a terminal at most 512 of them as `shown` has them. Returns how many of these bytes are written.
+    /// Writes bytes. To a terminal it writes at most 512 of them, changed by `shown`. Returns how many of `bytes` are written.
     fn write(&mut self, bytes: &[u8]) -> io::Result<usize>
         ensures bound { WritesAtMost result bytes.now }
         ensures bytes { WriteAppends (if self.old.is_terminal then None else W.contents self.old.writer)

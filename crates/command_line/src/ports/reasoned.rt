@@ -20,7 +20,7 @@ impl Reason {
         }
     }
 
-    /// Keeps the system's number of this error, to report it later. An error without a number is kept as none.
+    /// Keeps the system's number of this error, to report it later. If the error has no number, none is kept.
     pub fn keep(&self, error: &io::Error) {
         self.code
             .store(error.raw_os_error().unwrap_or(0), Ordering::SeqCst);
@@ -52,7 +52,7 @@ impl<'a, T> Reasoned<'a, T> {
 impl<'a, R: Read> Read for Reasoned<'a, R> {
     ghost remaining = { λ r. R.remaining r.inner };
 
-    /// Reads as the reader below does. If that fails, its reason is kept.
+    /// Reads as the inner reader does. If that fails, its reason is kept.
     fn read(&mut self, buffer: &mut [u8]) -> io::Result<usize>
         ensures bound { ReadsAtMost result buffer.new }
         ensures bytes { ReadConsumes (R.remaining self.old.inner) (R.remaining self.new.inner) result buffer.new }
@@ -68,7 +68,7 @@ impl<'a, R: Read> Read for Reasoned<'a, R> {
 impl<'a, W: Write> Write for Reasoned<'a, W> {
     ghost contents = { λ w. W.contents w.inner };
 
-    /// Writes as the writer below does. If that fails, its reason is kept.
+    /// Writes as the inner writer does. If that fails, its reason is kept.
     fn write(&mut self, bytes: &[u8]) -> io::Result<usize>
         ensures bound { WritesAtMost result bytes.now }
         ensures bytes { WriteAppends (W.contents self.old.inner) (W.contents self.new.inner) result bytes.now }
@@ -80,7 +80,7 @@ impl<'a, W: Write> Write for Reasoned<'a, W> {
         answer
     }
 
-    /// Flushes the writer below. If that fails, its reason is kept.
+    /// Flushes the inner writer. If that fails, its reason is kept.
     fn flush(&mut self) -> io::Result<()> {
         let answer = self.inner.flush();
         if let Err(error) = &answer {

@@ -75,7 +75,7 @@ fn last_line(bytes: &[u8]) -> usize {
 }
 
 impl<S> Watched<S> {
-    /// Watches a source that has given nothing, and that follows so many lines of its file.
+    /// Watches a source that has given nothing yet. `lines` lines of its file precede what it gives.
     pub fn new(alloc: Global, source: S, lines: u64) -> Watched<S>
         ensures { result.source ≡ source }
     {
@@ -94,7 +94,7 @@ impl<S> Watched<S> {
     {
         let kept = self.kept.as_slice();
         let lines = lines_in(kept);
-        // The end of a long line isn't looked for in vain.
+        // If no line ends there, `last_line` would look at all bytes in vain.
         let line = if lines == 0 { 0 } else { last_line(kept) };
         let begin = line.max(kept.len().saturating_sub(LONGEST)).min(kept.len());
         self.lines = self.lines.saturating_add(lines);
@@ -110,7 +110,7 @@ impl<S> Watched<S> {
         self.kept.truncate(left);
     }
 
-    /// Keeps these bytes, and as many of those before as there is room for, if there is memory.
+    /// Keeps these bytes, if there is memory. If that would be too many, the older lines are dropped first.
     fn keep(&mut self, bytes: &[u8])
         ensures { self.new.source ≡ self.old.source }
     {
@@ -128,7 +128,7 @@ impl<S> Watched<S> {
         (self.before == 0).then_some(self.kept.as_slice())
     }
 
-    /// Returns the line of the byte at this offset, as far as it is kept, and the byte's place in that. None if it isn't kept.
+    /// Returns the kept part of the line with the byte at this offset, and the byte's index in it. None if the byte isn't kept.
     pub fn line_of(&self, offset: u64) -> Option<(Line<'_>, usize)> {
         let at = usize::try_from(offset.checked_sub(self.before)?).ok()?;
         let front = self.kept.as_slice().get(..at)?;

@@ -5,7 +5,7 @@ use crate::pauses::pause::Pause;
 use rand_core::utils::NextWord;
 use rand_pcg::Pcg32;
 
-/// The pauses of a run's workers before some of their turns. The generator of the seed says which, for each run, thread and turn.
+/// The pauses of a run's workers before some of their turns. The seed's generator says which, for each run, thread and turn.
 #[derive(Clone, Copy, PartialEq, Eq)]
 pub struct Stirred {
     pub seed: u64,
@@ -18,6 +18,7 @@ impl Stirred {
     pub fn pause(&self, thread: u8, step: u32) -> Pause
         ensures { result ≡ pause_of (word_at self.now.seed self.now.run thread step) }
     {
+        // 256 streams for each run: one for each value of `thread`.
         let stream = u64::from(self.run) * 256 + u64::from(thread);
         let mut words = Pcg32::new(self.seed, stream);
         words.advance(u64::from(step));

@@ -7,7 +7,7 @@ use crate::answer::Entered;
 
 /// A thread comes to the barrier, and runs its action if it is the last.
 impl Barrier {
-    /// Plays `await` up to where it would wait. The thread arrives, or the result says why not. `interrupted` is its
+    /// Plays `await` up to where it would wait. The thread arrives, or the result says why not. `interrupted` is the thread's
     /// interrupted status, which the caller clears if the result is `Interrupted`. `Busy` and `Own` change nothing.
     pub fn enter(&mut self, thread: u8, interrupted: bool) -> Entered
         requires thread { thread < 64 }
@@ -15,6 +15,7 @@ impl Barrier {
         ensures barrier { self.new ≡ (enter thread interrupted self.old).barrier }
         ensures answer { result ≡ (enter thread interrupted self.old).answer }
     {
+        // `false`: the thread may wait.
         self.enter_timed(thread, interrupted, false)
     }
 
@@ -69,7 +70,7 @@ impl Barrier {
         }
     }
 
-    /// Lets the last thread arrive. It becomes the runner of the action (`Run`), or without an action the barrier trips.
+    /// Lets the last thread arrive. If the barrier has an action, this thread runs it next (`Run`). If not, the barrier trips.
     fn arrive_last(&mut self, thread: u8) -> Entered
         requires no_runner { self.old.runner ≡ None }
         requires whole { self.old.broken ≡ false }

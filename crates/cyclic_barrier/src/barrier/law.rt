@@ -6,8 +6,8 @@ ghost use Rattle.cyclic_barrier.specs.PlainBarrier as plain;
 
 use super::Barrier;
 
-/// A law: every barrier fulfils `IsBarrier`: fewer threads wait than it has parties, none if it is broken, and all parties
-/// but the runner while the action runs.
+/// A law: every barrier fulfils `IsBarrier`. Fewer threads wait than the barrier has parties, and none waits if it is broken.
+/// While the action runs, all parties but the runner wait.
 pub fn each_barrier_is_sound(barrier: &Barrier)
     ensures { IsBarrier barrier.now }
 {

@@ -5,7 +5,7 @@ use super::Barrier;
 
 /// The generation under way ends, and all who wait are released.
 impl Barrier {
-    /// `reset`: releases the waiting threads as if the barrier broke. Then it isn't broken.
+    /// Plays `reset`: the waiting threads are released as if the barrier broke. After that, the barrier isn't broken.
     pub fn reset(&mut self)
         requires { self.old.runner ≡ None }
         ensures { self.new ≡ reset self.old }

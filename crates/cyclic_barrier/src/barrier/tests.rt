@@ -6,7 +6,7 @@ use super::Barrier;
 use crate::answer::{Entered, WaitState};
 use std::process::Abort;
 
-/// A call, with the thread that makes it and its result. `EnterLate` has no time; `EndAction` says whether it returned.
+/// A call, with the thread that makes it and its result. `EnterLate` has no time left. `EndAction` says if the action returned.
 #[derive(Clone, Copy)]
 enum Call {
     Enter(u8, Entered),

@@ -7,7 +7,7 @@ use crate::answer::WaitState;
 
 /// A waiting thread asks for the state of its wait, and ends the wait.
 impl Barrier {
-    /// Returns whether the thread still waits, or how it was released, or `None` if it has no wait here.
+    /// Returns whether the thread still waits, or how it was released. `None`: the thread has no wait here.
     pub fn wait(&self, thread: u8) -> Option<WaitState>
         requires { thread < 64 }
         ensures { result ≡ wait_at self.now.waits thread }

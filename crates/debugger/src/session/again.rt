@@ -32,8 +32,8 @@ impl Debugger {
         Ok(())
     }
 
-    /// Returns a debugger of this machine, with the breakpoints and the room of `self`, that has played the first `count`
-    /// choices of runs. If none of these is refused, it fails only if it is out of memory.
+    /// Returns a debugger of this machine that has played the first `count` choices of `runs`. It has the breakpoints of
+    /// `self`, and can take back as many choices. If no choice is refused, this fails only if out of memory.
     pub fn again(&self, machine: Machine, runs: &[Run], count: u64) -> Result<Debugger, StepFault>
         ensures history { IfOk result (λ again.
             IsHistory (world_of machine) (take count (choices_of runs.now)) again) }

@@ -14,7 +14,7 @@ use thread_machine::{Choice, Status, StepFault};
 pub enum Went {
     /// All were played.
     On,
-    /// One of them was a break: it was the last that was played.
+    /// One of them left its thread at a breakpoint: it was the last that was played.
     Break,
     /// One was refused.
     Fault(StepFault),
@@ -39,7 +39,7 @@ impl Debugger {
         self.stop_of(went, before)
     }
 
-    /// Returns why `go` stopped (`went`), with how many choices it played. `before` choices had been counted before it.
+    /// Returns why `go` stopped (`went`), with how many choices it played. `before` is the count of choices before `go`.
     fn stop_of(&self, went: Went, before: u64) -> Stop
         requires { before ≤ self.now.machine.choices }
         ensures { (session : Session) (choices : List Choice) → before ≡ session.machine.choices

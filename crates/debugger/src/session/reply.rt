@@ -76,7 +76,7 @@ fn say_fault<W: Sink>(output: &mut W, number: u64, fault: StepFault) -> Result<(
     }
 }
 
-/// Writes how far `go` went, the reply to the command `g`, as `at 3` at a breakpoint. Fails if the output has failed.
+/// Writes how far `go` went, the reply to the command `g`, for example `at 3` at a breakpoint. Fails if the output has failed.
 pub fn say_stop<W: Sink>(output: &mut W, stop: Stop) -> Result<(), Failed>
     ensures line { OnOk result (Appends (W.written output.old) (W.written output.new) (stop_text stop)) }
     ensures failed { OnErr result (IsTrue (W.has_failed output.new)) }

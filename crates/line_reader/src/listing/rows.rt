@@ -9,7 +9,7 @@ use instruction_table::{OperandKind, Row, row_shape};
 use row_code::fields_of;
 use std::alloc::AllocError;
 
-/// Appends an operand for each of `kinds`: the next of `registers`, or `imm` for another kind. It ends if no register is left.
+/// Appends an operand for each of `kinds`: the next of `registers`, or `imm` for another kind. Stops if no register is left.
 #[inline(always)]
 #[tactic(auto, using(crate::proofs::ListedTexts::operand_steps))]
 fn put_operands(line: &mut RowLine, kinds: &[OperandKind], registers: &[u8], imm: i32)

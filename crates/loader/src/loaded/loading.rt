@@ -26,7 +26,7 @@ fn counts_in(image: &Image) -> Counts
     }
 }
 
-/// Returns the first fault of the threads, else of the rows, else of the end of the rows. `None`: there is none.
+/// Returns the first fault in this order: of a thread's first row, of what a row names, of the last row. `None`: no fault.
 fn code_fault(image: &Image) -> Option<LoadFault>
     ensures { result ≡ earliest (earliest_in (thread_fault (length image.now.rows)) 0 image.now.threads
         ∷ earliest_in (row_fault (counts_in image.now)) 0 image.now.rows
@@ -44,7 +44,8 @@ fn code_fault(image: &Image) -> Option<LoadFault>
     last_fault(rows)
 }
 
-/// Makes all checks in this order: is there a thread, phasers, barriers, code. Returns the phasers and barriers that it made.
+/// Checks in this order: that there is a thread, the phasers, the barriers, the code. Returns the phasers and barriers, which
+/// the checks of these make.
 fn checked(alloc: Global, image: &Image) -> Result<(Forest, Vec<Barrier>), LoadFault>
     ensures fault { IfErr result (λ fault. fault ≢ LoadFault.Memory
         → first_fault image.now ≡ Some fault) }
@@ -79,8 +80,8 @@ fn entry_rows(alloc: Global, image: &Image) -> Result<(Vec<u16>, Vec<u16>), Allo
 
 /// Checks the image, and makes the program that it declares. The checks come in this order: there is a thread; each phaser's
 /// routine exists, and then the phaser can be declared; each barrier has parties, and then its action exists; each thread's
-/// first row exists; everything that a row names exists; and no thread goes on after the last row. The first fault is
-/// returned. `Memory` comes at the place where memory runs out.
+/// first row exists; everything that a row names exists; and no thread goes on after the last row. The first fault is returned.
+/// If memory runs out, `Memory` is returned at once, and no check follows.
 pub fn load(alloc: Global, image: Image) -> Result<Loaded, LoadFault>
     ensures fault { IfErr result (λ fault. fault ≢ LoadFault.Memory
         → first_fault image ≡ Some fault) }

@@ -15,7 +15,7 @@ use loader::Loaded;
 use thread_state::{Event, Mark};
 
 impl Stage {
-    /// Plays a row that calls a barrier. `cawaitt` with a time of 0 or less may not wait.
+    /// Plays a row that calls a barrier. `cawaitt` with a time of 0 or less doesn't wait: `no_wait` is true.
     pub(super) fn barrier_row(&mut self, program: &Loaded, row: Row, t: usize) -> Event
         requires ready { is_some (outcome_of_barrier_row row t program.now (scene_of self.old)) ≡ true }
         requires named { IsNamed (counts_in self.old) row }
@@ -27,6 +27,7 @@ impl Stage {
         ensures phasers { self.new.phasers ≡ self.old.phasers }
     {
         match row {
+            // `false`: the thread may wait.
             Row::Cawait { into, barrier } => self.come(program, false, into, barrier, t),
             Row::Cawaitt {
                 into,
@@ -61,7 +62,8 @@ impl Stage {
         }
     }
 
-    /// Plays `cawait` or `cawaitt`: throws 1 inside the barrier's action, 6 if an action would find the stack full, or enters.
+    /// Plays `cawait` or `cawaitt`: it throws 1 inside the barrier's action. If there is an action and the stack is full, it
+    /// throws 6. Otherwise it enters the barrier.
     #[inline(always)]
     fn come(&mut self, program: &Loaded, no_wait: bool, into: Reg, barrier: u16, t: usize) -> Event
         requires ready { is_some (unless_busy barrier t (scene_of self.old) (unless_runner barrier t (scene_of self.old)
@@ -125,7 +127,7 @@ impl Stage {
         }
     }
 
-    /// Plays `creset`: throws 1 inside the barrier's action. The event shows that the barrier broke if threads were waiting.
+    /// Plays `creset`: resets the barrier, or throws 1 inside its action. If threads waited, the event shows that it broke.
     fn reset(&mut self, barrier: u16, t: usize) -> Event
         requires ready { is_some (unless_busy barrier t (scene_of self.old) (unless_runner barrier t (scene_of self.old)
             (Some (outcome_of_reset barrier t (scene_of self.old))))) ≡ true }

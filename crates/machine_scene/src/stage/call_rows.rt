@@ -41,7 +41,8 @@ impl Stage {
         }
     }
 
-    /// Plays `ret`: returns from the call, routine or action on top of the stack. Throws 7 if there is a handler, or no entry.
+    /// Plays `ret`: returns from the call, routine or action on top of the stack. If a handler or nothing is on top, it throws
+    /// 7.
     fn ret(&mut self, program: &Loaded, t: usize) -> Event
         requires sound { IsSound program.now most_before (scene_of self.old) }
         requires thread { t < length self.old.threads }
@@ -69,7 +70,8 @@ impl Stage {
         }
     }
 
-    /// Ends a routine, whose R0 says whether to terminate (not 0). Its thread goes back to the arrival's `row` and `registers`.
+    /// Ends a routine, which asks to terminate the tree if R0 isn't 0. The thread gets back its arrival's `row` and
+    /// `registers`.
     fn end_routine(
         &mut self,
         program: &Loaded,
@@ -98,8 +100,8 @@ impl Stage {
         self.take_answer(manner, root, terminates, t)
     }
 
-    /// Ends the phase, and terminates the tree if the routine asked for it. If the tree was terminated meanwhile, the arrival
-    /// only gets its result: the negative phase if it waits, and otherwise the phase's own number.
+    /// Ends the phase, and terminates the tree if the routine asked for it. If the tree was terminated while the routine ran,
+    /// the arrival only gets its result. For `paaa` this is the negative view, otherwise the number of the phase.
     #[tactic(auto, using(tier_tree::proofs::Changed::changed_nothing))]
     fn take_answer(&mut self, manner: Manner, root: PhaserId, terminates: bool, t: usize) -> Event
         requires there { root.0 < length self.old.phasers }
@@ -147,6 +149,7 @@ impl Stage {
     {
         let manner = manner_of(program.rows()[row as usize]);
         self.threads[t].leave_routine(registers, row);
+        // `true`: the action returned.
         self.barriers[barrier as usize].end_action(true);
         Event {
             what: self.threads[t].answer(manner.into, 0),

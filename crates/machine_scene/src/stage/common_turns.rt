@@ -16,7 +16,8 @@ use thread_state::{Event, Status};
 /// The turns that are most frequent in most programs: rows that use only registers, arrivals of parties that stay, and the ends
 /// of waits for phases.
 impl Stage {
-    /// Plays a thread's turn if it is one of these. `None`: it isn't, nothing has changed, and the caller calls `turn` instead.
+    /// Plays a thread's turn if it is common: one of those above. `None`: it isn't. Nothing has changed: the caller calls
+    /// `turn`.
     #[inline(always)]
     pub fn common_turn(&mut self, program: &Loaded, t: usize) -> Option<Event>
         requires sound { IsSound program.now most_before (scene_of self.old) }
@@ -67,8 +68,8 @@ impl Stage {
         }
     }
 
-    /// Plays `parr` or `paaa`. `None`, with nothing changed, if it is another row, or if a thread is about to register: an
-    /// arrival may make that one ready or not.
+    /// Plays `parr` or `paaa`. `None`: the row is another one, or some thread is about to register, and an arrival may change
+    /// whether that thread is ready. Then nothing has changed.
     #[inline(always)]
     fn common_arrival(&mut self, program: &Loaded, row: Row, t: usize) -> Option<Event>
         requires at { StandsAt program.now row t self.old }

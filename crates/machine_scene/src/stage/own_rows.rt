@@ -1,4 +1,4 @@
-//! The rows that use only the registers and the place of their own thread.
+//! The rows that use only the registers and the row number of their own thread.
 ghost use Rattle.std.specs.Prelude.{◌≡◌, ◌<◌, length, true, false, Some, is_some};
 ghost use Rattle.instruction_table.specs.LocalRows.{is_local_row};
 ghost use Rattle.machine_scene.specs.{Scene.scene_of, Scene.thread_at, Sound.CanPlay, OwnRows.outcome_of_own_row};

@@ -44,7 +44,7 @@ fn wait_with(thread: &mut Thread, patience: Patience, phase: i32) -> What
     }
 }
 
-/// Plays `awaitAdvance`: returns `phase` if it is negative, or `view`, the phaser's own phase, if that differs. Else it waits.
+/// Plays `awaitAdvance`: returns `phase` if it is negative, or `view`, what `getPhase` returns, if that differs. Else it waits.
 fn await_phase(thread: &mut Thread, patience: Patience, into: Reg, phase: i32, view: i32) -> What
     requires { thread.old.pc < 65535 }
     ensures { record { thread = thread.new; what = result }
@@ -169,7 +169,8 @@ impl Stage {
         self.registration(into, phaser, count as u32, t)
     }
 
-    /// Registers parties, which needn't wait now. The result is the phase, negative if terminated. Throws 1 if too many.
+    /// Registers parties; the registration isn't held (`ready`). Returns the phase, or the negative view of a terminated
+    /// phaser. Throws 1 if the phaser would have too many parties.
     fn registration(&mut self, into: Reg, phaser: u16, count: u32, t: usize) -> Event
         requires ready { is_some (outcome_of_registration into phaser count t (scene_of self.old)) ≡ true }
         requires phaser { phaser < length self.old.phasers }
@@ -187,7 +188,7 @@ impl Stage {
         }
     }
 
-    /// Arrives, unless it throws: 1 inside the tree's own routine, 6 if a routine would find the stack full.
+    /// Arrives, or throws: 1 inside the tree's own routine, and 6 if the tree has a routine and the stack is full.
     #[inline(always)]
     #[tactic(auto, using(tier_tree::proofs::Changed::changed_nothing, crate::proofs::Arrivals::refused, crate::proofs::Arrivals::comes))]
     pub(super) fn arrival(
@@ -213,7 +214,7 @@ impl Stage {
         }
     }
 
-    /// Returns the exception that an arrival throws before it reaches the phaser, or `None`. With an empty stack there is none.
+    /// Returns the exception that an arrival throws before it reaches the phaser. `None`: none, as always with an empty stack.
     #[inline(always)]
     #[tactic(auto, using(crate::proofs::Arrivals::free))]
     fn refusal(&self, phaser: u16, t: usize) -> Option<i32>
@@ -228,7 +229,7 @@ impl Stage {
         }
     }
 
-    /// Returns 1 inside the tree's own routine, and 6 if a routine would find the stack full. `None`: nothing is thrown.
+    /// Returns 1 inside the tree's own routine, and 6 if the tree has a routine and the stack is full. `None`: it throws none.
     #[inline(never)]
     fn refusal_by_stack(&self, phaser: u16, t: usize) -> Option<i32>
         requires phaser { phaser < length self.now.phasers }
@@ -344,7 +345,8 @@ impl Stage {
         self.answer_last(manner, root, phase, t)
     }
 
-    /// Answers the last arrival: for `paaa` what `getPhase` returns now, else the ended phase. The event shows the end.
+    /// Answers the last arrival: for `paaa` what `getPhase` returns now, else the ended phase's number. The event shows the
+    /// end.
     #[inline(always)]
     fn answer_last(&mut self, manner: Manner, root: PhaserId, phase: i32, t: usize) -> Event
         requires there { root.0 < length self.old.phasers }
@@ -387,7 +389,7 @@ impl Stage {
         alone(await_phase(&mut self.threads[t], patience, into, phase, view))
     }
 
-    /// Plays `pforce`: terminates the phaser's tree. The event shows it, unless the tree was terminated before.
+    /// Plays `pforce`: terminates the phaser's tree. The event shows the termination, unless the tree was terminated before.
     fn force(&mut self, phaser: u16, t: usize) -> Event
         requires phaser { phaser < length self.old.phasers }
         requires plays { CanPlay t self.old }

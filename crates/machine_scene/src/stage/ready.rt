@@ -13,7 +13,8 @@ use instruction_table::Row;
 use thread_state::Status;
 use tier_tree::Registered;
 
-/// Returns whether a thread may have to wait before it plays the row: a registration, or a call that a busy barrier delays.
+/// Returns whether a thread may have to wait before it plays the row: at a registration, or at a call that waits while another
+/// thread runs the barrier's action.
 #[inline(always)]
 pub(super) fn may_be_blocked(row: Row) -> bool
     ensures { result ≡ may_be_blocked row }
@@ -56,7 +57,7 @@ impl Stage {
         }
     }
 
-    /// Returns whether a registration would have to wait for the end of the phase. One that throws doesn't.
+    /// Returns whether a registration would have to wait for the end of the phase. One that would throw doesn't wait.
     #[inline(never)]
     fn is_held(&self, phaser: u16, count: i32, t: usize) -> bool
         requires phaser { phaser < length self.now.phasers }
@@ -114,7 +115,7 @@ impl Stage {
         }
     }
 
-    /// Returns whether the thread's wait at the barrier was released, or an interrupt ends it: none does while an action runs.
+    /// Returns whether the barrier has released the thread, or an interrupt ends its wait. While the action runs, none does.
     #[inline(always)]
     fn is_released(&self, barrier: u16, t: usize) -> bool
         requires there { barrier < length self.now.barriers }
@@ -131,7 +132,8 @@ impl Stage {
         }
     }
 
-    /// Returns whether the thread, which isn't ready, has a timed wait that can expire: none can while an action runs there.
+    /// Returns whether the thread, which isn't ready, has a timed wait that can expire. At a barrier, no wait can expire while
+    /// the action runs.
     pub(super) fn has_time(&self, row: Row, t: usize) -> bool
         requires named { IsNamed (counts_in self.now) row }
         requires thread { t < length self.now.threads }

@@ -71,7 +71,8 @@ fn concerns_others(event: Event) -> bool
     !matches!(event.mark, Mark::Nothing) || matches!(event.what, What::Enters)
 }
 
-/// Returns whether a step may make other threads ready or not: then all bits are computed again. `pforce` and `creset` do.
+/// Returns whether a step may make other threads ready or not: then all bits are computed again. `pforce` and `creset` always
+/// may, whatever the event shows.
 #[inline(always)]
 fn changes_all(row: Row, event: Event) -> bool
     ensures { result ≡ changes_all row event }
@@ -93,7 +94,7 @@ impl Stage {
         is_local(row) && matches!(self.threads[t].status(), Status::Runs)
     }
 
-    /// Returns the row that a thread is at, also after a step (`row_of`: before it only). The second call proves `SeesWait`.
+    /// Returns the row that a thread is at. Unlike `row_of`, it may be called after a step. `wait_is_placed` proves `SeesWait`.
     #[inline(always)]
     fn place(&self, program: &Loaded, t: usize) -> Row
         requires sound { IsSound program.now most_after (scene_of self.now) }
@@ -151,8 +152,8 @@ impl Stage {
         }
     }
 
-    /// Returns the sets `before` with the bits of thread `t` computed again. For most threads, which run and are at a row
-    /// where none waits, they are known at once.
+    /// Returns the sets `before` with the bits of thread `t` computed again. Most threads run and are at a row where no thread
+    /// has to wait: their bits are known at once.
     #[inline(always)]
     #[tactic(auto, using(crate::proofs::ReadySets::looked_on))]
     fn looked(&self, program: &Loaded, before: ReadySet, t: usize) -> ReadySet
@@ -231,7 +232,8 @@ impl Stage {
         self.ready.turns = set_at(self.ready.turns, t, false);
     }
 
-    /// Computes the bits of thread t again, unless it runs and is at a row where no thread has to wait: then they are right.
+    /// Computes the bits of thread t again, unless it runs and is at a row where no thread has to wait: then its bits are
+    /// right.
     #[inline(always)]
     fn look_ahead(&mut self, program: &Loaded, t: usize)
         requires sound { IsSound program.now most_after (scene_of self.old) }
@@ -276,7 +278,8 @@ impl Stage {
         }
     }
 
-    /// Returns the sets after a step of thread `t`: its bits are computed again, and those of the thread that it interrupted.
+    /// Returns the sets `before` with new bits for thread `t`, which took a step, and for the thread that it interrupted, if
+    /// any.
     #[inline(always)]
     fn with_few(&self, program: &Loaded, before: ReadySet, row: Row, t: usize) -> ReadySet
         requires sound { IsSound program.now most_after (scene_of self.now) }

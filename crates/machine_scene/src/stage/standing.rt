@@ -20,7 +20,7 @@ impl Stage {
         self.phasers.is_forest();
     }
 
-    /// States `StandsAt`: what the thread's row names exists, and one more phase may end. The read serves the proof.
+    /// States `StandsAt`: what the thread's row names exists, and each tree may end one more phase. The read serves the proof.
     pub(super) fn turn_is_placed(&self, program: &Loaded, row: Row, t: usize)
         requires sound { IsSound program.now most_before (scene_of self.now) }
         requires thread { t < length self.now.threads }
@@ -41,8 +41,8 @@ impl Stage {
         let _ = &self.threads;
     }
 
-    /// A law: a routine on top of the stack has a turned or terminated root, and that the barrier of an action there runs
-    /// it. The read of a field serves the proof.
+    /// A law: if a routine is on top of the stack, its root is turned or terminated. If an action is, some thread runs this
+    /// barrier's action. The read of a field serves the proof.
     #[tactic(auto, using(crate::proofs::Placed::top_placed))]
     pub(super) fn top_is_placed(&self, program: &Loaded, top: &Option<Frame>, t: usize)
         requires sound { IsSound program.now most_before (scene_of self.now) }

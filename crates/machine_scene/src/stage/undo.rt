@@ -1,4 +1,4 @@
-//! What a turn may change is saved before it, and restored when it is taken back.
+//! What a turn may change is saved before the turn, and restored when the turn is undone.
 ghost use Rattle.std.specs.Prelude.{◌≡◌, ◌<◌, length};
 ghost use Rattle.thread_state.specs.Thread.{top_of};
 ghost use Rattle.machine_scene.specs.{Scene.scene_of, Scene.thread_at, Sound.IsSound, Sound.most_before};

@@ -7,7 +7,8 @@ use loader::Loaded;
 use thread_state::{Event, Frame, Mark};
 
 impl Stage {
-    /// Plays a turn of a thread that throws this exception: it pops one stack entry. If that is an action, its barrier breaks.
+    /// Plays a turn of a thread that throws this exception: it pops one stack entry. If that is an action's, the barrier
+    /// breaks.
     pub(super) fn unwind(&mut self, program: &Loaded, code: i32, t: usize) -> Event
         requires sound { IsSound program.now most_before (scene_of self.old) }
         requires thread { t < length self.old.threads }
@@ -19,6 +20,7 @@ impl Stage {
         self.top_is_placed(program, &top, t);
         match &top {
             Some(Frame::Action(barrier, _, _)) => {
+                // `false`: the action threw.
                 self.barriers[*barrier as usize].end_action(false);
                 Event {
                     what: self.threads[t].pop(code),

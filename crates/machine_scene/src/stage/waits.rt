@@ -42,8 +42,8 @@ impl Stage {
         }
     }
 
-    /// Ends a wait for a phase: returns the phaser's phase if it is another one, or throws 3 for an interrupt. Only the
-    /// contract uses `looks`: whether the wait is interruptible.
+    /// Ends a wait for a phase. It returns the phaser's view if this isn't `phase`. Otherwise the thread was interrupted, and
+    /// throws 3. `looks`, which only the contract uses, says whether the wait is interruptible.
     #[inline(always)]
     fn finish_awaited(&mut self, looks: bool, into: Reg, phaser: u16, phase: i32, t: usize) -> Event
         requires ready { is_some (outcome_of_awaited looks into phaser phase t (scene_of self.old)) ≡ true }
@@ -61,7 +61,7 @@ impl Stage {
         alone(self.threads[t].take_interruption())
     }
 
-    /// Returns whether the thread's wait at the barrier goes on, or has ended with a trip or a breakage. It must have such a wait.
+    /// Returns whether the thread's wait at the barrier, which it must have, goes on, or has ended with a trip or a breakage.
     pub(super) fn wait_state(&self, barrier: u16, t: usize) -> WaitState
         requires there { barrier < length self.now.barriers }
         requires waits { wait_at (barrier_at (scene_of self.now) barrier).waits t ≢ None }
@@ -88,7 +88,8 @@ impl Stage {
         }
     }
 
-    /// Ends a wait at a barrier: returns the arrival index after a trip, throws 4 after a breakage, and 3 for an interrupt.
+    /// Ends a wait at a barrier. After a trip it returns the arrival index. After a breakage it throws 4. Otherwise the thread
+    /// was interrupted: the barrier breaks, and the thread throws 3.
     #[inline(always)]
     fn finish_release(&mut self, into: Reg, index: i32, barrier: u16, t: usize) -> Event
         requires ready { is_some (outcome_of_release (wait_at (barrier_at (scene_of self.old) barrier).waits t)

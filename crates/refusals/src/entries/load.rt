@@ -1,6 +1,6 @@
 use crate::entry::Entry;
 
-/// A program that names a row that there isn't, or declares a phaser that can't be.
+/// A program that names a row that doesn't exist, or declares a phaser that can't be made.
 pub static LOAD_PLACE: [Entry; 2] = entries! {
     "refused load 1 PLACE", "docs/FORMATS.md, \"Load faults\"", ["load" "1"] ["load" "1" "row" " row"]
         ["load" "1" "thread" " thread"] ["load" "1" "phaser" " phaser"] ["load" "1" "barrier" " barrier"]:

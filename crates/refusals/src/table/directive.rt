@@ -7,7 +7,8 @@ use crate::word::WordEntry;
 /// The words that begin with a dot.
 pub const DIRECTIVES: [&str; 5] = [".phaser", ".barrier", ".thread", ".cell", ".run"];
 
-/// Entries of words that begin with a dot: the word, what follows it and can be there, what it is in Java, what it does, and an example.
+/// Entries of words that begin with a dot: the word, what follows it, what can stand there, what it is in Java, what it does,
+/// and an example.
 macro_rules! directives {
     ($($word:literal $rest:literal: $operands:literal, $java:literal, $means:literal, $example:literal;)+) => {
         [$(WordEntry {

@@ -6,8 +6,8 @@ use super::{MOST_CHOICES, Machine};
 use crate::choice::Choice;
 
 impl Machine {
-    /// Plays a choice `most` times if it is idle, or as often as the machine still takes choices, and returns how often: 0 if
-    /// it isn't idle. It takes constant time, because an idle choice is only counted.
+    /// Plays an idle choice `most` times, or less often if the machine takes no more choices. Returns how often: 0 if the
+    /// choice isn't idle. The time is constant, because idle choices are only counted.
     pub fn idle(&mut self, choice: Choice, most: u64) -> u64
         requires { choice.thread < length self.old.scene.threads }
         ensures times { result ≡ idle_times (world_of self.old) choice most }

@@ -57,7 +57,7 @@ impl ThreadNote {
 }
 
 impl Thread {
-    /// Saves in a note what one turn can change. It overwrites a note in place, because moving a note costs more than a step.
+    /// Overwrites `note` with what one turn can change of this thread. No note is returned: moving one costs more than a step.
     pub fn note(&self, note: &mut ThreadNote)
         ensures { note.new ≡ note_of self.now }
     {
@@ -68,7 +68,7 @@ impl Thread {
         note.depth = self.stack.len() as u8;
         match self.stack.last() {
             Some(top) => note.top = Some(*top),
-            // Most notes have no entry and are written over one that has none: only another is worth the writing.
+            // Mostly `note.top` is `None` already: then it isn't written again.
             None => {
                 if note.top.is_some() {
                     note.top = None;
@@ -88,6 +88,7 @@ impl Thread {
         self.interrupted = note.interrupted;
         self.stack.truncate((note.depth as usize).saturating_sub(1));
         if let Some(top) = &note.top {
+            // This can't fail: the stack has room for 64 entries.
             if self.stack.push(*top).is_err() {
                 unreachable!()
             }

@@ -102,7 +102,7 @@ impl Forest {
         }
     }
 
-    /// Returns whether a phaser above has no room for the party that a child registers. With 0 `parties` it registers none.
+    /// Returns whether a parent has no room for the one party that a child registers. A child with 0 `parties` registers none.
     fn is_overfull_above(&self, parent: Option<PhaserId>, parties: u32) -> bool
         requires { has_parent parent (phasers_of self.now) ≡ true }
         ensures { result ≡ list_any (is_overfull (phasers_of self.now))
@@ -120,9 +120,9 @@ impl Forest {
         }
     }
 
-    /// Adds a phaser that `fault` doesn't refuse. If it has a parent and parties, registers one party with the parent, and one
-    /// further up as long as the phaser below that had no parties. `Err`: no memory, and nothing changes. The last four clauses
-    /// are those of `declare`.
+    /// Adds a phaser that `fault` doesn't refuse. If it has a parent and parties, registers one party with the parent. An empty
+    /// parent registers one with its own, too. `Err`: no memory, and nothing changes. The last four clauses are those of
+    /// `declare`.
     fn add(
         &mut self,
         parent: Option<PhaserId>,
@@ -199,7 +199,7 @@ impl Forest {
         }
     }
 
-    /// If a child has parties, registers one party with its parent, and one further up above each phaser that was empty.
+    /// If a child has parties, registers one party with its parent. A parent that was empty registers one with its own, too.
     fn join_above(&mut self, parent: Option<PhaserId>, parties: u16)
         requires { has_parent parent (phasers_of self.old) ≡ true }
         ensures joined { phasers_of self.new

@@ -8,7 +8,7 @@ use crate::fault::push_with_count;
 use byte_ports::{Failed, Sink};
 use packed_phaser::Word;
 
-/// Returns a phaser's phase number, 0 to 2147483647. After termination `getPhase` (`view`) returns it less 2147483648.
+/// Returns a phaser's phase number, 0 to 2147483647. After termination `getPhase` (`view`) is this number minus 2147483648.
 fn phase_of(word: Word) -> u64
     ensures { result ≡ (record_of word).phase }
 {

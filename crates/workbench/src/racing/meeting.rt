@@ -16,7 +16,7 @@ use std::sync::Wait;
 use std::thread;
 use std::thread::{Promise, PromisedHandle, Threads};
 
-/// After so many meetings a thread returns its caller here.
+/// The promise of a thread: it returns its caller after `rounds` meetings.
 #[derive(Drop)]
 pub struct Home {
     /// The caller as the thread got it.
@@ -76,7 +76,8 @@ fn callers(
 }
 
 /// Starts a thread for each caller, and waits until all have ended. Returns the first caller, the threads in the callers'
-/// order, and whether each could be started. If one can't be, it terminates the phaser, so that the others end.
+/// order, and whether each could be started. If one can't be, it terminates the phaser, so that the others end. `running` is
+/// empty, with room for all threads.
 fn run<R: Threads + Wait + Sync, P: Pace + Sync>(
     rt: &R,
     phaser: &SharedPhaser,
@@ -199,6 +200,7 @@ pub fn race<R: Threads + Wait + Sync, P: Pace + Sync>(
     ensures word { IfOk result (λ word. IsFinal parties rounds word) }
     ensures fault { IfErr result (λ fault. (fault ≡ Fault.Memory) ⊎ (fault ≡ Fault.Spawn)) }
 {
+    // The phaser begins in phase 0.
     let made = SharedPhaser::new(alloc, parties, Policy::Default, Phase::prevailing(0));
     let (phaser, mut first) = match made {
         Ok(both) => both,
