@@ -19,7 +19,7 @@ REFUSED = rb"""(?x)refused[ ](
 # clap's own texts, and below them what may have been meant; `explain` says so itself
 WRONG_WORDS = rb"""(?xs)error:[ ](
     .*\nFor[ ]more[ ]information,[ ]try[ ]'--help'\.\n(help:[ ][^\n]*\n)?
-    | unrecognized[ ]subcommand[ ].*\nUsage:[ ]vuthgal[ ]help[ ]\[COMMAND\]\.\.\.\n
+    | unrecognized[ ]subcommand[ ].*\nUsage:[ ]vuthgal[ ]help[ ]\[COMMAND\]\.\.\.\n(help:[ ][^\n]*\n)?
     | `explain`[ ]doesn't[ ]know[ ]these[ ]words.*\n
     )"""
 # a run that ended otherwise, or a plan that wanted more choices than there are
